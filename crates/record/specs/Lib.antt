@@ -1,0 +1,4 @@
+pub mod Bytes
+pub mod Forest
+pub mod Refusals
+pub mod Choose
