@@ -1,0 +1,206 @@
+#include "books.h"
+
+#include <stdio.h>
+#include <stdlib.h>
+#include <string.h>
+
+static void stop(const char *what, const char *of)
+{
+    fprintf(stderr, "%s: %s\n", what, of);
+    exit(2);
+}
+
+/* ---- Text -------------------------------------------------------------------------------------------------- */
+
+static unsigned digit(const char *at)
+{
+    static const char digits[] = "0123456789ABCDEFabcdef";
+    const char *found = *at ? strchr(digits, *at) : NULL;
+    if (!found)
+        stop("no hexadecimal digit", at);
+    unsigned value = (unsigned)(found - digits);
+    return value < 16 ? value : value - 6;
+}
+
+size_t bytes_of_text(const char *text, uint8_t *bytes, size_t most)
+{
+    size_t len = 0;
+    while (*text) {
+        if (len == most)
+            stop("too long a text", text);
+        bytes[len++] = (uint8_t)(digit(text) << 4 | digit(text + 1));
+        text += 2;
+        if (len % RECORD == 0 && *text++ != '\n')
+            stop("a line without its end before", text);
+    }
+    if (len % RECORD != 0)
+        stop("a line is cut short", "");
+    return len;
+}
+
+size_t bytes_of_file(const char *path, uint8_t *bytes, size_t most)
+{
+    FILE *file = fopen(path, "rb");
+    if (!file)
+        stop("will not open", path);
+    char *text = malloc(most * 3 + 2);
+    size_t len = fread(text, 1, most * 3 + 1, file);
+    text[len] = 0;
+    fclose(file);
+    len = bytes_of_text(text, bytes, most);
+    free(text);
+    return len;
+}
+
+/* ---- Records ----------------------------------------------------------------------------------------------- */
+
+/* Where the next record goes. */
+struct pen {
+    uint8_t *at;
+};
+
+static void put_big(uint8_t *at, unsigned bytes, uint64_t number)
+{
+    while (bytes > 0) {
+        at[--bytes] = (uint8_t)number;
+        number >>= 8;
+    }
+}
+
+static uint64_t bits(double d)
+{
+    uint64_t b;
+    memcpy(&b, &d, sizeof b);
+    return b;
+}
+
+static uint64_t name(const char *eight)
+{
+    uint64_t number = 0;
+    for (int i = 0; i < 8; i++)
+        number = number << 8 | (uint8_t)eight[i];
+    return number;
+}
+
+static void put(struct pen *pen, unsigned kind, unsigned choice, size_t span, unsigned category, unsigned type,
+                unsigned identifier, uint64_t value)
+{
+    uint8_t *r = pen->at;
+    r[0] = (uint8_t)kind;
+    r[1] = (uint8_t)choice;
+    put_big(r + 2, 2, span);
+    r[4] = (uint8_t)category;
+    r[5] = (uint8_t)type;
+    put_big(r + 6, 2, identifier);
+    put_big(r + 8, 8, value);
+    pen->at += RECORD;
+}
+
+static void put_entry(struct pen *pen, unsigned category, unsigned type, unsigned identifier, uint64_t value)
+{
+    uint8_t *e = pen->at;
+    e[0] = (uint8_t)category;
+    e[1] = (uint8_t)type;
+    put_big(e + 2, 2, identifier);
+    put_big(e + 4, 4, 0);
+    put_big(e + 8, 8, value);
+    pen->at += RECORD;
+}
+
+/* ---- Books that grow --------------------------------------------------------------------------------------- */
+
+static const char channels[4][9] = { "PRESS-FL", "PRESS-FR", "PRESS-RL", "PRESS-RR" };
+
+size_t growth_book(uint8_t *book, size_t records)
+{
+    struct pen pen = { book };
+    if (records % 9 != 1)
+        stop("growth_book", "records must be 1 more than a multiple of 9");
+    put(&pen, 1, 2, records, 0, 0, 0, 0);                       /* set, permit-overrides */
+    for (size_t i = 0; i < records / 9; i++) {
+        put(&pen, 2, 1, 9, 0, 0, 0, 0);                         /* policy, deny-overrides */
+        put(&pen, 4, 0, 3, 2, 0, 0, 0);
+        put(&pen, 5, 0, 2, 0, 0, 0, 0);
+        put(&pen, 6, 1, 1, 2, 2, 1, name(channels[i % 4]));     /* resource 1: the channel */
+        put(&pen, 3, 1, 2, 0, 0, 0, 0);                         /* Permit if 80.0 > pressure */
+        put(&pen, 7, 12, 1, 4, 3, 3, bits(80.0));
+        put(&pen, 3, 2, 2, 0, 0, 0, 0);                         /* Deny if 36,000 <= time */
+        put(&pen, 7, 15, 1, 4, 1, 1, 36000);
+        put(&pen, 8, 2, 1, 0, 0, (unsigned)i, 0);
+    }
+    return (size_t)(pen.at - book);
+}
+
+size_t growth_request(uint8_t *request, size_t entries)
+{
+    struct pen pen = { request };
+    for (size_t k = 8; k < entries; k++)                        /* samples that no rule asks for */
+        put_entry(&pen, 4, 3, (unsigned)(0x100 + k), bits(0.5 * (double)k));
+    put_entry(&pen, 2, 2, 1, name(channels[0]));
+    if (entries >= 8) {
+        put_entry(&pen, 1, 2, 1, name("ARGOLIN "));
+        put_entry(&pen, 3, 2, 1, name("WRITE   "));
+        put_entry(&pen, 4, 1, 5, 1);
+        put_entry(&pen, 4, 3, 2, bits(12.5));
+        put_entry(&pen, 4, 3, 4, bits(40.0));
+        put_entry(&pen, 4, 3, 3, bits(91.5));                   /* pressure */
+        put_entry(&pen, 4, 1, 1, 40000);                        /* time */
+    }
+    return (size_t)(pen.at - request);
+}
+
+/* ---- Deep books -------------------------------------------------------------------------------------------- */
+
+enum { DEPTH = 16 };
+
+static void put_condition(struct pen *pen, unsigned depth)
+{
+    for (; depth < DEPTH; depth++)                              /* and, or, not in turn, one in the other */
+        put(pen, 7, 1 + depth % 3, DEPTH - depth + 1, 0, 0, 0, 0);
+    put(pen, 7, 12, 1, 4, 1, 7, 50);
+}
+
+static void put_section(struct pen *pen)
+{
+    put(pen, 4, 0, 3, 4, 0, 0, 0);
+    put(pen, 5, 0, 2, 0, 0, 0, 0);
+    put(pen, 6, 2, 1, 4, 1, 7, 50);
+}
+
+static void put_filling(struct pen *pen, unsigned depth, enum filling filling)
+{
+    switch (filling) {
+    case CONDITIONS:
+        put(pen, 2, 1, DEPTH - depth + 1, 0, 0, 0, 0);
+        put(pen, 3, 1, DEPTH - depth, 0, 0, 0, 0);
+        put_condition(pen, depth + 2);
+        break;
+    case POLICY_TARGET:
+        put(pen, 2, 1, 5, 0, 0, 0, 0);
+        put_section(pen);
+        put(pen, 3, 2, 1, 0, 0, 0, 0);
+        break;
+    case RULE_TARGET:
+        put(pen, 2, 1, 5, 0, 0, 0, 0);
+        put(pen, 3, 2, 4, 0, 0, 0, 0);
+        put_section(pen);
+        break;
+    default:
+        break;
+    }
+}
+
+size_t deep_book(uint8_t *book, unsigned algorithm, unsigned sets, enum filling filling)
+{
+    struct pen pen = { book + sets * RECORD };
+    put_filling(&pen, sets + 1, filling);
+    for (unsigned depth = sets; depth > 0; depth--) {           /* each set round all that stands so far */
+        struct pen head = { book + (depth - 1) * RECORD };
+        if (depth < DEPTH) {
+            put(&pen, 8, 1, 1, 0, 0, depth, 0);
+            put(&pen, 8, 2, 1, 0, 0, depth, 0);
+        }
+        put(&head, 1, algorithm, (size_t)(pen.at - head.at) / RECORD, 0, 0, 0, 0);
+    }
+    return (size_t)(pen.at - book);
+}

@@ -1,0 +1,24 @@
+/* Books and requests as bytes: read from a text, or made for the benchmark. */
+#ifndef BOOKS_H
+#define BOOKS_H
+
+#include <stddef.h>
+#include <stdint.h>
+
+enum { RECORD = 16, MOST_BOOK = 1000 * RECORD, MOST_REQUEST = 64 * RECORD, MOST_OUT = 2 * 1000 };
+
+/* Reads lines of 32 hexadecimal digits; returns how many bytes they give. Ends the program if there is more than most or a wrong line. */
+size_t bytes_of_text(const char *text, uint8_t *bytes, size_t most);
+size_t bytes_of_file(const char *path, uint8_t *bytes, size_t most);
+
+/* A permit-overrides set over policies of 9 records, each with a target, two rules with conditions and an obligation. records is 1 more
+ * than a multiple of 9, as 10, 100 and 1,000 are. A quarter of the policies apply to growth_request, and each of them is
+ * Indeterminate for its one entry, Deny for 8 or 64 entries; so the whole set is walked. Both return the length in bytes. */
+size_t growth_book(uint8_t *book, size_t records);
+size_t growth_request(uint8_t *request, size_t entries);
+
+/* A book of nesting depth 16: sets of one algorithm, one in the other, and in the innermost what fills the rest. */
+enum filling { SETS, CONDITIONS, POLICY_TARGET, RULE_TARGET, FILLINGS };
+size_t deep_book(uint8_t *book, unsigned algorithm, unsigned sets, enum filling filling);
+
+#endif

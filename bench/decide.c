@@ -1,0 +1,125 @@
+/* Judging and deciding through the C host: bachumoi_decide against plain C, and the stack of the deepest call.
+ * Run from the top of the repository; built by bench/run. */
+#include "books.h"
+#include "measure.h"
+#include "plain.h"
+
+#include <bachumoi.h>
+#include <stdbool.h>
+#include <stdio.h>
+#include <stdlib.h>
+#include <string.h>
+
+#ifdef HAVE_HOST
+static uint64_t proved(const struct input *in)
+{
+    return bachumoi_decide(in->book, in->book_len, in->request, in->request_len, in->out, in->out_len);
+}
+#define PROVED proved
+#else
+#define PROVED NULL
+#endif
+
+static uint64_t plain(const struct input *in)
+{
+    return plain_decide(in->book, in->book_len, in->request, in->request_len, in->out, in->out_len);
+}
+
+/* Both sides give the same number and leave the same bytes; it is a decision, and the expected one where one is named. */
+static void agree(const struct input *in, side *of)
+{
+    uint8_t theirs[MOST_OUT];
+    memset(in->out, 0xEE, in->out_len);
+    uint64_t number = plain(in);
+    memcpy(theirs, in->out, in->out_len);
+    if (!of)
+        of = plain;
+    memset(in->out, 0xEE, in->out_len);
+    if (of(in) != number || memcmp(theirs, in->out, in->out_len) != 0 || bachumoi_refused(number)) {
+        fprintf(stderr, "decide: book %s, %zu entries: no decision, or not the same one\n", in->name, in->request_len / RECORD);
+        exit(1);
+    }
+}
+
+static void one(const struct input *in)
+{
+    agree(in, PROVED);
+    measure("decide", in, plain, PROVED);
+}
+
+/* The output that a book needs: two bytes for each obligation record. */
+static size_t need(const uint8_t *book, size_t book_len)
+{
+    size_t bytes = 0;
+    for (size_t i = 0; i < book_len; i += RECORD)
+        bytes += book[i] == 8 ? 2 : 0;
+    return bytes;
+}
+
+/* The rig-like book with each request that examples/rig/answers.txt names. */
+static void rig(struct input in, uint8_t *book, uint8_t *request)
+{
+    in.book_len = bytes_of_file("examples/rig/BOOK.HEX", book, MOST_BOOK);
+    in.out_len = need(book, in.book_len);
+    FILE *answers = fopen("examples/rig/answers.txt", "r");
+    char file[64], path[128], name[80];
+    while (answers && fscanf(answers, "%63s %*s", file) == 1) {
+        snprintf(path, sizeof path, "examples/rig/%s", file);
+        snprintf(name, sizeof name, "rig %.*s", (int)strcspn(file, "."), file);
+        in.name = name;
+        in.request_len = bytes_of_file(path, request, MOST_REQUEST);
+        one(&in);
+    }
+    if (answers)
+        fclose(answers);
+}
+
+static void growth(struct input in, uint8_t *book, uint8_t *request)
+{
+    in.name = "growth";
+    for (size_t records = 10; records <= 1000; records *= 10)
+        for (size_t entries = 1; entries <= 64; entries *= 8) {
+            in.book_len = growth_book(book, records);
+            in.out_len = need(book, in.book_len);
+            in.request_len = growth_request(request, entries);
+            one(&in);
+        }
+}
+
+/* The deepest stack of a side over every book of depth 16 that deep_book makes. */
+static size_t deepest(struct input *in, uint8_t *book, side *of)
+{
+    size_t most = 0;
+    for (unsigned algorithm = 1; algorithm <= 4; algorithm++)
+        for (enum filling filling = SETS; filling < FILLINGS; filling++) {
+            unsigned first = filling == CONDITIONS ? 0 : filling == SETS ? 16 : filling == POLICY_TARGET ? 12 : 11;
+            unsigned last = filling == CONDITIONS ? 13 : first;
+            for (unsigned sets = first; sets <= last; sets++) {
+                in->book_len = deep_book(book, algorithm, sets, filling);
+                agree(in, of);
+                size_t stack = stack_of(of, in);
+                if (stack > most)
+                    most = stack;
+            }
+        }
+    return most;
+}
+
+static void stack(struct input in, uint8_t *book, uint8_t *request)
+{
+    in.name = "16 levels";
+    in.request_len = bytes_of_file("examples/a/40.hex", request, MOST_REQUEST);
+    double of_plain = (double)deepest(&in, book, plain);
+    double of_proved = PROVED ? (double)deepest(&in, book, PROVED) : -1;
+    row("stack", &in, "bytes", of_plain, of_proved);
+}
+
+int main(void)
+{
+    static uint8_t book[MOST_BOOK], request[MOST_REQUEST], out[MOST_OUT];
+    struct input in = { .book = book, .request = request, .out = out, .out_len = sizeof out };
+    rig(in, book, request);
+    growth(in, book, request);
+    stack(in, book, request);
+    return 0;
+}

@@ -1,0 +1,22 @@
+/* Judging and deciding in plain C, as document 01 says and without a proof: the yardstick of the benchmark.
+ *
+ * The numbers are those of include/bachumoi.h: decision + 256 x count, or
+ * 255 + 256 x number + 65,536 x line + 4,294,967,296 x part for a refusal.
+ */
+#ifndef PLAIN_H
+#define PLAIN_H
+
+#include <stddef.h>
+#include <stdint.h>
+
+/* 256 x the number of obligation records of an accepted book, or its refusal (3, 4, 2, then the first 5, then the first 6). */
+uint64_t plain_judge_book(const uint8_t *book, size_t book_len);
+
+/* 0 for an accepted request, or its refusal (4, 2, then the first 5). */
+uint64_t plain_judge_request(const uint8_t *request, size_t request_len);
+
+/* What bachumoi_decide answers, and what it leaves in out. */
+uint64_t plain_decide(const uint8_t *book, size_t book_len, const uint8_t *request, size_t request_len,
+                      uint8_t *out, size_t out_len);
+
+#endif

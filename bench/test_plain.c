@@ -1,0 +1,166 @@
+/* Tries the plain C of the benchmark on document 01's P1 to P11, its Run line, some refusals, and the examples' answers.
+ * Run from the top of the repository; built by bench/run. Exit status 0 if all is right, else 1. */
+#include "books.h"
+#include "plain.h"
+
+#include <stdio.h>
+#include <stdlib.h>
+#include <string.h>
+
+static int failed;
+static uint8_t book[MOST_BOOK + RECORD], request[MOST_REQUEST + RECORD], out[MOST_OUT];
+
+/* What the deciding program would print of a number and the obligations in out. */
+static void print_line(char *line, uint64_t number)
+{
+    if ((number & 255) == 255) {
+        sprintf(line, "FF%02X%02X%04X", (unsigned)(number >> 8 & 255), (unsigned)(number >> 32), (unsigned)(number >> 16 & 65535));
+        return;
+    }
+    line += sprintf(line, "%02X%04X", (unsigned)(number & 255), (unsigned)(number >> 8));
+    for (uint64_t i = 0; i < number >> 8; i++)
+        line += sprintf(line, "%02X%02X", out[2 * i], out[2 * i + 1]);
+}
+
+/* Decides and compares with the line expected; every byte of out after the obligations, or all on a refusal, must be as it has to be. */
+static void expect_bytes(const char *name, size_t book_len, size_t request_len, size_t out_len, const char *expected)
+{
+    static char line[6 + 2 * MOST_OUT + 1];
+    memset(out, 0xEE, sizeof out);
+    uint64_t number = plain_decide(book, book_len, request, request_len, out, out_len);
+    print_line(line, number);
+    int refused = (number & 255) == 255, right = strcmp(line, expected) == 0;
+    for (size_t i = refused ? 0 : 2 * (number >> 8); i < sizeof out; i++)
+        right &= out[i] == (refused || i >= out_len ? 0xEE : 0);
+    if (!right) {
+        printf("plain C: %s: %s, not %s\n", name, line, expected);
+        failed = 1;
+    }
+}
+
+static void expect(const char *name, const char *book_text, const char *request_text, const char *expected)
+{
+    size_t book_len = bytes_of_text(book_text, book, sizeof book);
+    size_t request_len = bytes_of_text(request_text, request, sizeof request);
+    expect_bytes(name, book_len, request_len, sizeof out, expected);
+}
+
+#define A "02010006000000000000000000000000\n" \
+          "03010001000000000000000000000000\n" \
+          "03020002000000000000000000000000\n" \
+          "070C0001040100070000000000000032\n" \
+          "08010001000000110000000000000000\n" \
+          "08020001000000120000000000000000\n"
+#define A_40 "04010007000000000000000000000028\n"
+#define A_50 "04010007000000000000000000000032\n"
+#define A_60 "0401000700000000000000000000003C\n"
+#define A_MINUS_1 "0401000700000000FFFFFFFFFFFFFFFF\n"
+
+static void worked(void)
+{
+    expect("P1", A, "", "040000");
+    expect("P2", A, A_60, "0100010011");
+    expect("P3", A, A_40, "0200010012");
+    expect("P4", A, A_50, "0100010011");
+    expect("P5", A, A_MINUS_1, "0200010012");
+    expect("P6", A, A_40 A_40, "040000");
+    expect("P7", "01010007000000000000000000000000\n" A, "", "020000");
+    expect("P8", "01020007000000000000000000000000\n" A, "", "040000");
+    expect("P9", "01040008000000000000000000000000\n"
+                 "02010001000000000000000000000000\n" A, A_60, "040000");
+    expect("P10", "02010008000000000000000000000000\n"
+                  "04000003010000000000000000000000\n"
+                  "05000002000000000000000000000000\n"
+                  "06010001018100010000000000000001\n"     /* subject 1, must be present, is not */
+                  "04000003030000000000000000000000\n"
+                  "05000002000000000000000000000000\n"
+                  "06010001030100010000000000000001\n"     /* action 1 is not there: False */
+                  "03010001000000000000000000000000\n", "", "040000");
+    expect("P11", "02010006000000000000000000000000\n"
+                  "04000004010000000000000000000000\n"
+                  "05000003000000000000000000000000\n"
+                  "06010001010100010000000000000001\n"     /* False */
+                  "06010001018100020000000000000001\n"     /* Indeterminate */
+                  "03010001000000000000000000000000\n", "", "030000");
+}
+
+/* A set of span records, and policies of one record to fill it. */
+static size_t flat(size_t records)
+{
+    static const uint8_t set[RECORD] = { 1, 1 }, policy[RECORD] = { 2, 1, 0, 1 };
+    memcpy(book, set, RECORD);
+    book[2] = (uint8_t)(records >> 8);
+    book[3] = (uint8_t)records;
+    for (size_t i = 1; i < records; i++)
+        memcpy(book + i * RECORD, policy, RECORD);
+    return records * RECORD;
+}
+
+static size_t nested(unsigned sets)
+{
+    memset(book, 0, sets * RECORD);
+    for (unsigned i = 0; i < sets; i++) {
+        book[i * RECORD] = book[i * RECORD + 1] = 1;
+        book[i * RECORD + 3] = (uint8_t)(sets - i);
+    }
+    return sets * RECORD;
+}
+
+static void run_line(void)
+{
+    expect_bytes("1,000 lines", flat(1000), 0, 0, "030000");
+    expect_bytes("1,001 lines", flat(1001), 0, 0, "FF02010000");
+    expect_bytes("16 nested sets", nested(16), 0, 0, "030000");
+    expect_bytes("17 nested sets", nested(17), 0, 0, "FF06010011");
+}
+
+static void refusals(void)
+{
+    size_t book_len = bytes_of_text(A, book, sizeof book), request_len = bytes_of_text(A_40, request, sizeof request);
+    expect_bytes("empty book, bad request", 0, 3, 0, "FF03010000");
+    expect_bytes("length before number of records", MOST_BOOK + 1, 0, 0, "FF04010000");
+    expect_bytes("request not a multiple of 16", book_len, 15, 4, "FF04020000");
+    expect_bytes("output one byte short", book_len, request_len, 3, "FF07030000");
+    expect_bytes("output just long enough", book_len, request_len, 4, "0200010012");
+    expect_bytes("output with an odd byte", book_len, request_len, 5, "0200010012");
+    book[1 * RECORD + 3] = 9;                               /* line 2 past the end: 6 */
+    expect_bytes("place", book_len, request_len, 4, "FF06010002");
+    book[5 * RECORD + 1] = 3;                               /* line 6: no such choice: 5, before any 6 */
+    expect_bytes("field before place", book_len, request_len, 4, "FF05010006");
+    book_len = bytes_of_text(A, book, sizeof book);
+    request[1] = 129;
+    expect_bytes("entry with must-be-present", book_len, request_len, 4, "FF05020001");
+}
+
+/* The answers that a folder of examples says it has. */
+static void examples(const char *folder)
+{
+    char path[200], file[64], expected[64];
+    snprintf(path, sizeof path, "%s/BOOK.HEX", folder);
+    size_t book_len = bytes_of_file(path, book, sizeof book);
+    snprintf(path, sizeof path, "%s/answers.txt", folder);
+    FILE *answers = fopen(path, "r");
+    unsigned asked = 0;
+    while (answers && fscanf(answers, "%63s %63s", file, expected) == 2) {
+        snprintf(path, sizeof path, "%s/%s", folder, file);
+        expect_bytes(path, book_len, bytes_of_file(path, request, sizeof request), sizeof out, expected);
+        asked++;
+    }
+    if (answers)
+        fclose(answers);
+    if (asked == 0) {
+        printf("plain C: no answers in %s\n", folder);
+        failed = 1;
+    }
+}
+
+int main(void)
+{
+    worked();
+    run_line();
+    refusals();
+    examples("examples/a");
+    examples("examples/rig");
+    printf("%s\n", failed ? "plain C: not as document 01 says" : "plain C: ok");
+    return failed;
+}

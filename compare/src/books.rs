@@ -1,0 +1,318 @@
+//! Generates sound books of every shape, and single subtrees of any kind.
+
+use crate::random::Random;
+use crate::record::*;
+
+/// What a book is to look like. Chances are in percent.
+struct Style {
+    /// Records at most.
+    limit: usize,
+    /// The root goes on until the limit is reached.
+    fill: bool,
+    /// The deepest level at which a set may stand.
+    set_depth: usize,
+    /// The chance that a child of a set is a set.
+    nest: usize,
+    /// Children of a policy or set at most.
+    children: usize,
+    /// The chance of a section for each category of a target.
+    sections: usize,
+    /// Conjunctions of a section, and matches of a conjunction, at most.
+    matches: usize,
+    /// The chance that a rule has a condition.
+    conditions: usize,
+    /// The chance that a condition is and, or, not.
+    logic: usize,
+    /// The chance of must-be-present.
+    must_be_present: usize,
+    /// Own obligations at most.
+    obligations: usize,
+}
+
+impl Style {
+    fn small(random: &mut Random) -> Style {
+        Style {
+            limit: random.between(4, 40),
+            fill: false,
+            set_depth: random.between(1, 6),
+            nest: random.pick(&[20, 40, 60]),
+            children: random.between(1, 5),
+            sections: random.pick(&[0, 5, 12, 30, 60]),
+            matches: random.between(1, 3),
+            conditions: random.pick(&[0, 30, 60, 100]),
+            logic: random.pick(&[0, 30, 60]),
+            must_be_present: random.pick(&[0, 15, 50]),
+            obligations: random.between(0, 3),
+        }
+    }
+
+    fn any(random: &mut Random) -> Style {
+        let small = Style::small(random);
+        match random.below(1000) {
+            0..=249 => Style { limit: random.between(1, 6), ..small },
+            250..=339 => Style { limit: random.between(16, 60), set_depth: 16, nest: 97, children: 2, sections: 5, ..small },
+            340..=399 => Style { limit: random.between(20, 80), set_depth: 2, conditions: 100, logic: 85, ..small },
+            400..=449 => Style { limit: random.between(40, 150), fill: true, ..small },
+            450..=469 => Style { limit: random.between(40, 200), set_depth: 1, children: 200, sections: 5, ..small },
+            470..=476 => Style { limit: random.between(150, 1000), fill: true, ..small },
+            477..=479 => Style { limit: random.pick(&[998, 999, 1000]), fill: true, ..small },
+            _ => small,
+        }
+    }
+}
+
+struct Generator<'r> {
+    random: &'r mut Random,
+    style: Style,
+    identifiers: Vec<u16>,
+    /// The literals of each type.
+    literals: [Vec<[u8; 8]>; 3],
+    records: Vec<Record>,
+}
+
+/// A sound book.
+pub fn book(random: &mut Random) -> Vec<Record> {
+    let style = Style::any(random);
+    generate(random, style)
+}
+
+/// A sound book of a few dozen records at most.
+pub fn small_book(random: &mut Random) -> Vec<Record> {
+    let style = Style::small(random);
+    generate(random, style)
+}
+
+fn generate(random: &mut Random, style: Style) -> Vec<Record> {
+    let mut generator = Generator::new(random, style);
+    if generator.style.fill || generator.random.chance(65) {
+        generator.set(1);
+    } else {
+        generator.policy(1);
+    }
+    generator.records
+}
+
+/// A sound book of exactly `count` records: a generated one with obligations added to its root.
+pub fn book_of(random: &mut Random, count: usize) -> Vec<Record> {
+    let style = Style { limit: random.between(1, count.min(60)), ..Style::small(random) };
+    let mut records = generate(random, style);
+    while records.len() < count {
+        let effect = random.between(1, 2) as u8;
+        records.push(obligation(effect, random.next() as u16));
+    }
+    records[0].set_span(count);
+    records
+}
+
+/// `depth` sets, one in the other.
+pub fn nested_sets(random: &mut Random, depth: usize) -> Vec<Record> {
+    let mut records = Vec::new();
+    for left in (1..=depth).rev() {
+        let mut set = record(SET, random.between(1, 4) as u8);
+        set.set_span(left);
+        records.push(set);
+    }
+    records
+}
+
+/// A subtree of this kind that keeps every rule inside it. A section and its matches have `category`.
+pub fn subtree(random: &mut Random, kind: u8, category: u8) -> Vec<Record> {
+    let style = Style { limit: random.between(4, 12), ..Style::small(random) };
+    let mut generator = Generator::new(random, style);
+    let depth = generator.random.between(1, 12);
+    match kind {
+        SET => generator.set(depth),
+        POLICY => generator.policy(depth),
+        RULE => generator.rule(depth),
+        SECTION => generator.section(category),
+        CONJUNCTION => generator.conjunction(category),
+        MATCH => generator.test(MATCH, 0, category),
+        CONDITION => generator.condition(depth),
+        _ => generator.obligation(),
+    }
+    generator.records
+}
+
+/// A record of this kind and choice, with span 1.
+pub fn record(kind: u8, choice: u8) -> Record {
+    let mut bytes = [0; LENGTH];
+    bytes[0] = kind;
+    bytes[1] = choice;
+    bytes[3] = 1;
+    Record(bytes)
+}
+
+pub fn obligation(effect: u8, number: u16) -> Record {
+    let mut made = record(OBLIGATION, effect);
+    made.0[6..8].copy_from_slice(&number.to_be_bytes());
+    made
+}
+
+/// A value of this type, often one at a border.
+pub fn value(random: &mut Random, value_type: u8) -> [u8; 8] {
+    let integers = [0, 1, -1, 50, 49, 51, -50, i64::MAX, i64::MIN, i64::MAX - 1, 1 << 32, -(1 << 32)];
+    let doubles =
+        [0.0, -0.0, 1.0, -1.0, 0.1, 5e-324, -5e-324, f64::MIN_POSITIVE, 2.5e-310, f64::MAX, f64::MIN, 1e300, 4.5, -4.5];
+    match value_type {
+        DOUBLE if random.chance(80) => random.pick(&doubles).to_be_bytes(),
+        DOUBLE => finite(random.next()).to_be_bytes(),
+        INTEGER if random.chance(80) => random.pick(&integers).to_be_bytes(),
+        NAME if random.chance(80) => random.pick(&[*b"brake\0\0\0", *b"throttle", *b"steer\0\0\0", [0; 8], [255; 8]]),
+        _ => random.next().to_be_bytes(),
+    }
+}
+
+/// The bits of a finite double, near these.
+pub fn finite(bits: u64) -> u64 {
+    if f64::from_bits(bits).is_finite() {
+        bits
+    } else {
+        bits & !(1 << 52)
+    }
+}
+
+impl<'r> Generator<'r> {
+    fn new(random: &'r mut Random, style: Style) -> Generator<'r> {
+        let common = [0, 1, 7, 255, 256, 65535, random.next() as u16];
+        let identifiers = (0..random.between(1, 3)).map(|_| random.pick(&common)).collect();
+        let literals = [INTEGER, NAME, DOUBLE]
+            .map(|value_type| (0..random.between(1, 4)).map(|_| value(random, value_type)).collect());
+        Generator { random, style, identifiers, literals, records: Vec::new() }
+    }
+
+    /// The records that may still come.
+    fn room(&self) -> usize {
+        self.style.limit.saturating_sub(self.records.len())
+    }
+
+    fn open(&mut self, kind: u8, choice: usize) -> usize {
+        self.records.push(record(kind, choice as u8));
+        self.records.len() - 1
+    }
+
+    fn close(&mut self, opened: usize) {
+        let span = self.records.len() - opened;
+        self.records[opened].set_span(span);
+    }
+
+    fn set(&mut self, depth: usize) {
+        let algorithm = self.random.between(1, 4);
+        let set = self.open(SET, algorithm);
+        self.target(depth);
+        let fill = self.style.fill && depth == 1;
+        let mut children = self.random.between(0, self.style.children);
+        while (children > 0 || fill) && depth < MOST_DEPTH && self.room() > 0 {
+            if depth < self.style.set_depth && self.random.chance(self.style.nest) {
+                self.set(depth + 1);
+            } else {
+                self.policy(depth + 1);
+            }
+            children = children.saturating_sub(1);
+        }
+        self.obligations(depth);
+        self.close(set);
+    }
+
+    fn policy(&mut self, depth: usize) {
+        let algorithm = self.random.between(1, 3);
+        let policy = self.open(POLICY, algorithm);
+        self.target(depth);
+        let rules = if depth < MOST_DEPTH { self.random.between(0, self.style.children) } else { 0 };
+        for _ in 0..rules {
+            if self.room() > 0 {
+                self.rule(depth + 1);
+            }
+        }
+        self.obligations(depth);
+        self.close(policy);
+    }
+
+    fn rule(&mut self, depth: usize) {
+        let effect = self.random.between(1, 2);
+        let rule = self.open(RULE, effect);
+        self.target(depth);
+        if depth < MOST_DEPTH && self.room() > 0 && self.random.chance(self.style.conditions) {
+            self.condition(depth + 1);
+        }
+        self.close(rule);
+    }
+
+    /// The obligations of a policy or set at this depth.
+    fn obligations(&mut self, depth: usize) {
+        let count = if depth < MOST_DEPTH { self.random.between(0, self.style.obligations) } else { 0 };
+        for _ in 0..count.min(self.room()) {
+            self.obligation();
+        }
+    }
+
+    fn obligation(&mut self) {
+        let number = if self.random.chance(10) { 0 } else { self.random.next() as u16 };
+        let effect = self.random.between(1, 2) as u8;
+        self.records.push(obligation(effect, number));
+    }
+
+    /// The sections of a record at this depth.
+    fn target(&mut self, depth: usize) {
+        for category in 1..=4 {
+            if depth + 3 <= MOST_DEPTH && self.room() >= 3 && self.random.chance(self.style.sections) {
+                self.section(category);
+            }
+        }
+    }
+
+    fn section(&mut self, category: u8) {
+        let section = self.open(SECTION, 0);
+        self.records[section].0[4] = category;
+        self.conjunction(category);
+        for _ in 1..self.random.between(1, self.style.matches) {
+            if self.room() >= 2 {
+                self.conjunction(category);
+            }
+        }
+        self.close(section);
+    }
+
+    fn conjunction(&mut self, category: u8) {
+        let conjunction = self.open(CONJUNCTION, 0);
+        self.test(MATCH, 0, category);
+        for _ in 1..self.random.between(1, self.style.matches) {
+            if self.room() >= 1 {
+                self.test(MATCH, 0, category);
+            }
+        }
+        self.close(conjunction);
+    }
+
+    fn condition(&mut self, depth: usize) {
+        if !self.random.chance(self.style.logic) {
+            let category = self.random.between(1, 4) as u8;
+            return self.test(CONDITION, COMPARISON, category);
+        }
+        let may_have_parts = depth < MOST_DEPTH && self.room() >= 2;
+        let choice = self.random.between(1, if may_have_parts { 3 } else { 2 });
+        let condition = self.open(CONDITION, choice);
+        let parts = if choice == usize::from(NOT) { 1 } else { self.random.below(4) };
+        for _ in 0..parts {
+            if may_have_parts && self.room() > 0 {
+                self.condition(depth + 1);
+            }
+        }
+        self.close(condition);
+    }
+
+    /// A match, or a comparison (`base` is then added to the function).
+    fn test(&mut self, kind: u8, base: u8, category: u8) {
+        let value_type = self.random.pick(&[INTEGER, INTEGER, NAME, DOUBLE]);
+        let function = if value_type == NAME { 1 } else { self.random.between(1, 5) as u8 };
+        let mut test = record(kind, base + function);
+        let must = if self.random.chance(self.style.must_be_present) { MUST_BE_PRESENT } else { 0 };
+        test.0[4] = category;
+        test.0[5] = value_type + must;
+        let identifier = self.random.below(self.identifiers.len());
+        test.0[6..8].copy_from_slice(&self.identifiers[identifier].to_be_bytes());
+        let literals = &self.literals[usize::from(value_type) - 1];
+        let literal = literals[self.random.below(literals.len())];
+        test.0[8..].copy_from_slice(&literal);
+        self.records.push(test);
+    }
+}

@@ -1,0 +1,281 @@
+//! Damages sound books and requests, in one way or several.
+
+use crate::books::{book_of, nested_sets, record, subtree};
+use crate::judge::is_test;
+use crate::random::Random;
+use crate::record::*;
+
+/// The bytes of a damaged book; some damage leaves it sound.
+pub fn book(random: &mut Random, mut records: Vec<Record>) -> Vec<u8> {
+    match random.below(20) {
+        0 => return Vec::new(),
+        1 => records = of_awkward_size(random),
+        2..=4 => graft(random, &mut records),
+        5 => drop_subtree(random, &mut records),
+        6 => double_subtree(random, &mut records),
+        7 => swap_siblings(random, &mut records),
+        8..=9 => records = wrap(random, records),
+        10 => records = as_root(random, &records),
+        _ => {}
+    }
+    for _ in 0..random.pick(&[0, 1, 1, 1, 2]) {
+        damage_records(random, &mut records);
+    }
+    let mut bytes = book_bytes(&records);
+    if random.chance(4) {
+        misfit(random, &mut bytes);
+    }
+    bytes
+}
+
+/// The bytes of a damaged request.
+pub fn request(random: &mut Random, mut entries: Vec<Entry>) -> Vec<u8> {
+    let stray = crate::requests::stray;
+    if entries.is_empty() || random.chance(10) {
+        let count = random.pick(&[1, 2, 3, 10, 62, 63, 64, 65, 66, 130]);
+        entries = (0..count).map(|_| stray(random)).collect();
+    }
+    if random.chance(85) {
+        let at = random.below(entries.len());
+        let place = random.below(LENGTH);
+        let entry = &mut entries[at].0;
+        match random.below(6) {
+            0 => entry[0] = random.pick(&[0, 5, 128, 255]),
+            1 => entry[1] = random.pick(&[0, 4, 128, 129, 130, 131, 255]),
+            2 => entry[random.between(4, 7)] = random.between(1, 255) as u8,
+            3 => {
+                entry[1] = DOUBLE;
+                entry[8..].copy_from_slice(&unbounded(random));
+            }
+            _ => entry[place] = random.byte(),
+        }
+    }
+    let mut bytes = request_bytes(&entries);
+    if random.chance(12) {
+        misfit(random, &mut bytes);
+    }
+    bytes
+}
+
+/// Changes the length so that it is often no multiple of 16.
+fn misfit(random: &mut Random, bytes: &mut Vec<u8>) {
+    if random.chance(50) {
+        let extra = random.between(1, 17);
+        bytes.extend(random.bytes(extra));
+    } else {
+        bytes.truncate(bytes.len().saturating_sub(random.between(1, 17)));
+    }
+}
+
+/// The bytes of an infinity or of no number.
+fn unbounded(random: &mut Random) -> [u8; 8] {
+    let some = random.next();
+    let payload = random.pick(&[0, 1, 1 << 51, some & ((1 << 52) - 1)]);
+    let sign = random.pick(&[0, 1 << 63]);
+    (sign | 0x7FF0_0000_0000_0000 | payload).to_be_bytes()
+}
+
+// Damage that ignores the tree
+
+/// One change to the records, spans left as they are, but sometimes that of line 1 mended.
+fn damage_records(random: &mut Random, records: &mut Vec<Record>) {
+    let at = random.below(records.len());
+    let other = random.below(records.len());
+    match random.below(12) {
+        0 => {
+            let place = random.below(LENGTH);
+            records[at].0[place] = random.byte();
+        }
+        1 => {
+            let place = random.below(LENGTH);
+            records[at].0[place] ^= 1 << random.below(8);
+        }
+        2 if records.len() > 1 => {
+            records.remove(at);
+            mend_root(random, records);
+        }
+        3 => {
+            records.insert(other, records[at]);
+            mend_root(random, records);
+        }
+        4 => records.swap(at, other),
+        5 => span_off(random, records, at),
+        6 => past_end(random, records),
+        7 => wrong_category(random, records, at),
+        _ => break_field(random, &mut records[at]),
+    }
+}
+
+fn mend_root(random: &mut Random, records: &mut [Record]) {
+    if random.chance(80) {
+        let count = records.len();
+        records[0].set_span(count);
+    }
+}
+
+fn span_off(random: &mut Random, records: &mut [Record], at: usize) {
+    let span = records[at].span();
+    records[at].set_span(if random.chance(50) { span + 1 } else { span.saturating_sub(1) });
+}
+
+/// A record that is no leaf runs past its parent's end.
+fn past_end(random: &mut Random, records: &mut [Record]) {
+    let branches: Vec<usize> = (1..records.len()).filter(|&at| !records[at].is_leaf()).collect();
+    if branches.is_empty() {
+        return;
+    }
+    let at = random.pick(&branches);
+    let span = records[at].span();
+    let parent_end = match ancestors(records, at).last() {
+        Some(&parent) => parent + records[parent].span(),
+        None => return,
+    };
+    let needed = (parent_end + 1).saturating_sub(at).max(span + 1);
+    records[at].set_span(needed + random.pick(&[0, 0, 1, 100]));
+}
+
+/// Another category from 1 to 4, where there is one.
+fn wrong_category(random: &mut Random, records: &mut [Record], near: usize) {
+    let has_category = |record: &Record| record.kind() == SECTION || is_test(record);
+    if let Some(record) = records[near..].iter_mut().find(|record| has_category(record)) {
+        record.0[4] = random.between(1, 4) as u8;
+    }
+}
+
+/// Breaks one field rule of a sound record.
+fn break_field(random: &mut Random, record: &mut Record) {
+    let test = is_test(record);
+    let function_base = if record.kind() == MATCH { 0 } else { COMPARISON };
+    match random.below(9) {
+        0 => record.0[0] = random.pick(&[0, 9, 10, 17, 18, 128, 255]),
+        1 => record.0[1] = random.pick(&[0, 3, 4, 5, 6, 10, 16, 128, 255]),
+        2 => record.set_span(random.pick(&[0, 0, 1, 2, 256])),
+        3 if test || record.kind() == SECTION => record.0[4] = random.pick(&[0, 5, 128, 255]),
+        4 if test => record.0[5] = random.pick(&[0, 4, 64, 127, 128, 132, 255]),
+        5 if test => {
+            record.0[5] = DOUBLE + random.pick(&[0, MUST_BE_PRESENT]);
+            record.0[8..].copy_from_slice(&unbounded(random));
+        }
+        6 if test => {
+            record.0[1] = function_base + random.between(2, 5) as u8;
+            record.0[5] = NAME + random.pick(&[0, MUST_BE_PRESENT]);
+        }
+        _ => record.0[random.between(4, 15)] = random.between(1, 255) as u8,
+    }
+}
+
+// Damage to the tree, with spans that fit
+
+/// The records above this one, outermost first.
+fn ancestors(records: &[Record], at: usize) -> Vec<usize> {
+    (0..at).filter(|&above| above + records[above].span() > at).collect()
+}
+
+/// Puts `inserted` before the record at `at`, as a child of `parent`.
+fn insert_under(records: &mut Vec<Record>, parent: usize, at: usize, inserted: &[Record]) {
+    for above in ancestors(records, parent).into_iter().chain([parent]) {
+        let span = records[above].span();
+        records[above].set_span(span + inserted.len());
+    }
+    records.splice(at..at, inserted.iter().copied());
+}
+
+/// Takes the subtree at `at` out, and gives it.
+fn take_subtree(records: &mut Vec<Record>, at: usize) -> Vec<Record> {
+    let length = records[at].span();
+    for above in ancestors(records, at) {
+        let span = records[above].span();
+        records[above].set_span(span - length);
+    }
+    records.drain(at..at + length).collect()
+}
+
+/// Where a child of `parent` starts or ends.
+fn boundaries(records: &[Record], parent: usize) -> Vec<usize> {
+    let end = parent + records[parent].span();
+    let mut places = vec![parent + 1];
+    while *places.last().unwrap() < end {
+        let last = *places.last().unwrap();
+        places.push(last + records[last].span());
+    }
+    places
+}
+
+/// A new subtree of any kind under any record that may have children.
+fn graft(random: &mut Random, records: &mut Vec<Record>) {
+    if random.chance(40) {
+        let kind = random.pick(&[RULE, SECTION, CONDITION]);
+        graft_kind(random, records, kind);
+    }
+    let kind = random.between(1, 8) as u8;
+    graft_kind(random, records, kind);
+}
+
+fn graft_kind(random: &mut Random, records: &mut Vec<Record>, kind: u8) {
+    let branches: Vec<usize> = (0..records.len()).filter(|&at| !records[at].is_leaf()).collect();
+    let parent = random.pick(&branches);
+    let category = random.between(1, 4) as u8;
+    let new = subtree(random, kind, category);
+    let at = random.pick(&boundaries(records, parent));
+    insert_under(records, parent, at, &new);
+}
+
+fn drop_subtree(random: &mut Random, records: &mut Vec<Record>) {
+    if records.len() > 1 {
+        let at = random.between(1, records.len() - 1);
+        take_subtree(records, at);
+    }
+}
+
+fn double_subtree(random: &mut Random, records: &mut Vec<Record>) {
+    if records.len() > 1 {
+        let at = random.between(1, records.len() - 1);
+        let copy = records[at..at + records[at].span()].to_vec();
+        let parent = *ancestors(records, at).last().expect("line 1 is above");
+        insert_under(records, parent, at, &copy);
+    }
+}
+
+/// Moves a subtree to another place under its parent.
+fn swap_siblings(random: &mut Random, records: &mut Vec<Record>) {
+    if records.len() > 1 {
+        let at = random.between(1, records.len() - 1);
+        let parent = *ancestors(records, at).last().expect("line 1 is above");
+        let moved = take_subtree(records, at);
+        let to = random.pick(&boundaries(records, parent));
+        insert_under(records, parent, to, &moved);
+    }
+}
+
+/// The book inside so many sets that its depth comes near 16.
+fn wrap(random: &mut Random, mut records: Vec<Record>) -> Vec<Record> {
+    let depth = (0..records.len()).map(|at| ancestors(&records, at).len() + 1).max().unwrap_or(1);
+    let goal = random.between(15, 18);
+    for _ in depth..goal {
+        let mut set = record(SET, random.between(1, 4) as u8);
+        set.set_span(records.len() + 1);
+        records.insert(0, set);
+    }
+    records
+}
+
+/// A subtree of the book alone, or a new one of any kind.
+fn as_root(random: &mut Random, records: &[Record]) -> Vec<Record> {
+    if random.chance(50) {
+        let kind = random.between(1, 8) as u8;
+        let category = random.between(1, 4) as u8;
+        return subtree(random, kind, category);
+    }
+    let at = random.below(records.len());
+    records[at..at + records[at].span()].to_vec()
+}
+
+/// 15 to 18 nested sets, or, more rarely, about 1,000 records.
+fn of_awkward_size(random: &mut Random) -> Vec<Record> {
+    if random.chance(60) {
+        let depth = random.between(15, 18);
+        return nested_sets(random, depth);
+    }
+    let count = random.pick(&[999, 1000, 1001, 1002, 1100]);
+    book_of(random, count)
+}

@@ -1,0 +1,370 @@
+//! Deciding: rules, policies, sets and obligations of document 01's section "What is decided".
+
+use crate::judge::{self, Refused};
+use crate::policy::*;
+use crate::refusal::too_short;
+use crate::tally::{pairs, words, Tally, Wanted};
+use crate::truth::{wanted_truths, Evaluator, Truth};
+use Decision::{Deny, Indeterminate, NotApplicable, Permit};
+
+/// A decision with the obligations that are handed up.
+#[derive(Clone, PartialEq, Eq, Debug)]
+pub struct Answer {
+    pub decision: Decision,
+    pub obligations: Vec<u16>,
+    /// Over how many levels the obligations came up.
+    levels: usize,
+}
+
+fn bare(decision: Decision) -> Answer {
+    Answer { decision, obligations: Vec::new(), levels: 0 }
+}
+
+/// What the C host is to answer, with `out` as it is to be afterwards.
+pub fn host_call(book: &[u8], request: &[u8], out: &mut [u8], tally: &mut Tally) -> u64 {
+    if let Err(refused) = judge_call(book, request, out.len() / 2) {
+        refused.count(tally);
+        return refused.refusal.packed();
+    }
+    let (answer, _) = decide(book, request, tally);
+    out.fill(0);
+    for (pair, number) in out.chunks_mut(2).zip(&answer.obligations) {
+        pair.copy_from_slice(&number.to_be_bytes());
+    }
+    answer.decision as u64 + 256 * answer.obligations.len() as u64
+}
+
+/// Judges book, request and output, in this order.
+fn judge_call(book: &[u8], request: &[u8], places: usize) -> Result<(), Refused> {
+    let accepted = judge::book(book)?;
+    judge::request(request)?;
+    if places < accepted.obligations {
+        return Err(Refused { refusal: too_short(), causes: Vec::new() });
+    }
+    Ok(())
+}
+
+/// Decides an accepted book on an accepted request. Also gives the number of records looked at.
+pub fn decide(book: &[u8], request: &[u8], tally: &mut Tally) -> (Answer, u64) {
+    let attributes = attributes(request);
+    let root = tree(book);
+    let mut evaluator = Evaluator { attributes: &attributes, tally, asides: 0, looked_at: 0 };
+    let answer = evaluator.policy(&root);
+    evaluator.met("decision of the root", (root.name(), answer.decision.name()));
+    (answer, evaluator.looked_at)
+}
+
+impl Evaluator<'_> {
+    fn rule(&mut self, rule: &Rule) -> Decision {
+        self.look();
+        let (why, decision) = match self.target(&rule.target) {
+            Truth::False => ("target No-match", NotApplicable),
+            Truth::Unknown => ("target Indeterminate", Indeterminate),
+            Truth::True => match rule.condition.as_ref().map(|condition| self.condition(condition)) {
+                None => ("no condition", rule.effect),
+                Some(Truth::True) => ("condition True", rule.effect),
+                Some(Truth::False) => ("condition False", NotApplicable),
+                Some(Truth::Unknown) => ("condition Indeterminate", Indeterminate),
+            },
+        };
+        self.met("rule", (rule.effect.name(), why));
+        decision
+    }
+
+    fn policy(&mut self, policy: &Policy) -> Answer {
+        self.look();
+        let (decision, why) = match self.target(&policy.target) {
+            Truth::True => return self.applicable(policy),
+            Truth::False => (NotApplicable, "target No-match"),
+            Truth::Unknown => (Indeterminate, "target Indeterminate"),
+        };
+        self.met("policy or set", (policy.name(), why));
+        if !policy.obligations.is_empty() {
+            self.met("own obligations lost", why);
+        }
+        bare(decision)
+    }
+
+    /// The answer of a policy or set whose target is Match.
+    fn applicable(&mut self, policy: &Policy) -> Answer {
+        match &policy.children {
+            Children::Rules(rules) => {
+                let decision = self.rules(policy.algorithm, rules);
+                self.conclude(policy, decision, Vec::new())
+            }
+            Children::Policies(policies) => {
+                let (decision, evaluated) = self.policies(policy.algorithm, policies);
+                self.conclude(policy, decision, evaluated)
+            }
+        }
+    }
+
+    // The algorithms over rules
+
+    fn rules(&mut self, algorithm: Algorithm, rules: &[Rule]) -> Decision {
+        match algorithm {
+            Algorithm::DenyOverrides => self.overriding_rules("deny-overrides over rules", Deny, Permit, rules),
+            Algorithm::PermitOverrides => self.overriding_rules("permit-overrides over rules", Permit, Deny, rules),
+            _ => self.first_applicable_rule(rules),
+        }
+    }
+
+    /// `strong` stops; else Indeterminate if a `strong` rule was; else `weak` if any; else Indeterminate if any.
+    fn overriding_rules(&mut self, group: &'static str, strong: Decision, weak: Decision, rules: &[Rule]) -> Decision {
+        let (mut strong_unknown, mut weak_unknown, mut weak_seen) = (false, false, false);
+        for rule in rules {
+            let decision = self.rule(rule);
+            if decision == strong {
+                let before = if strong_unknown { "after its Indeterminate rule" } else { "stops" };
+                self.met(group, (strong.name(), before));
+                return strong;
+            }
+            weak_seen |= decision == weak;
+            strong_unknown |= decision == Indeterminate && rule.effect == strong;
+            weak_unknown |= decision == Indeterminate && rule.effect == weak;
+        }
+        let (decision, how) = match (strong_unknown, weak_seen, weak_unknown) {
+            (true, true, _) => (Indeterminate, "overriding rule, over the other effect"),
+            (true, false, _) => (Indeterminate, "overriding rule"),
+            (false, true, true) => (weak, "despite its Indeterminate rule"),
+            (false, true, false) => (weak, "alone"),
+            (false, false, true) => (Indeterminate, "other rule"),
+            (false, false, false) => (NotApplicable, if rules.is_empty() { "no rules" } else { "none applies" }),
+        };
+        self.met(group, (decision.name(), how));
+        decision
+    }
+
+    fn first_applicable_rule(&mut self, rules: &[Rule]) -> Decision {
+        let group = "first-applicable over rules";
+        for (index, rule) in rules.iter().enumerate() {
+            let decision = self.rule(rule);
+            if decision != NotApplicable {
+                self.met(group, (decision.name(), if index == 0 { "of the first" } else { "of a later one" }));
+                return decision;
+            }
+        }
+        self.met(group, (NotApplicable.name(), if rules.is_empty() { "no rules" } else { "none applies" }));
+        NotApplicable
+    }
+
+    // The algorithms over policies and sets
+
+    /// The decision, and the answers of the children that were evaluated.
+    fn policies(&mut self, algorithm: Algorithm, policies: &[Policy]) -> (Decision, Vec<Answer>) {
+        match algorithm {
+            Algorithm::DenyOverrides => self.walk("deny-overrides over policies", policies, |child| match child {
+                Deny | Indeterminate => Some(Deny),
+                _ => None,
+            }, &[Permit]),
+            Algorithm::PermitOverrides => self.walk("permit-overrides over policies", policies, |child| match child {
+                Permit => Some(Permit),
+                _ => None,
+            }, &[Deny, Indeterminate]),
+            Algorithm::FirstApplicable => self.walk("first-applicable over policies", policies, |child| match child {
+                NotApplicable => None,
+                answer => Some(answer),
+            }, &[]),
+            Algorithm::OnlyOneApplicable => self.only_one(policies),
+        }
+    }
+
+    /// Evaluates children until one stops the walk; if none does, the first of `otherwise` that a child
+    /// gave is the decision, else NotApplicable.
+    fn walk(
+        &mut self,
+        group: &'static str,
+        policies: &[Policy],
+        stops: fn(Decision) -> Option<Decision>,
+        otherwise: &[Decision],
+    ) -> (Decision, Vec<Answer>) {
+        let mut evaluated: Vec<Answer> = Vec::new();
+        for (index, policy) in policies.iter().enumerate() {
+            let answer = self.policy(policy);
+            let stop = stops(answer.decision);
+            self.met(group, if stop.is_some() { ("stopped by", answer.decision.name()) } else { ("goes on after", answer.decision.name()) });
+            evaluated.push(answer);
+            if let Some(decision) = stop {
+                self.count_after_stop(decision, &policies[index + 1..]);
+                self.met(group, (decision.name(), beside(decision, &evaluated)));
+                return (decision, evaluated);
+            }
+        }
+        let given = |wanted: &&Decision| evaluated.iter().any(|child| child.decision == **wanted);
+        let decision = otherwise.iter().find(given).copied().unwrap_or(NotApplicable);
+        self.met(group, (decision.name(), if policies.is_empty() { "no children" } else { beside(decision, &evaluated) }));
+        (decision, evaluated)
+    }
+
+    /// Judges children's targets only; the one that applies gives its answer.
+    fn only_one(&mut self, policies: &[Policy]) -> (Decision, Vec<Answer>) {
+        let group = "only-one-applicable";
+        let mut applicable: Option<&Policy> = None;
+        for policy in policies {
+            self.look();
+            match (self.target(&policy.target), applicable) {
+                (Truth::False, _) => {}
+                (Truth::True, None) => applicable = Some(policy),
+                (Truth::True, Some(first)) => {
+                    self.met(group, ("Indeterminate", "two Match"));
+                    self.count_two_applicable(first, policy);
+                    return (Indeterminate, Vec::new());
+                }
+                (Truth::Unknown, first) => {
+                    let before = if first.is_some() { "a target, after a Match" } else { "a target" };
+                    self.met(group, ("Indeterminate", before));
+                    return (Indeterminate, Vec::new());
+                }
+            }
+        }
+        match applicable {
+            None => {
+                let none = if policies.is_empty() { "no children" } else { "no Match" };
+                self.met(group, ("NotApplicable", none));
+                (NotApplicable, Vec::new())
+            }
+            Some(policy) => {
+                let answer = self.applicable(policy);
+                self.met(group, (answer.decision.name(), "of the one that applies"));
+                (answer.decision, vec![answer])
+            }
+        }
+    }
+
+    // Obligations
+
+    /// Those of evaluated children with the same decision, in child order, then the record's own.
+    fn conclude(&mut self, policy: &Policy, decision: Decision, evaluated: Vec<Answer>) -> Answer {
+        let mut answer = bare(decision);
+        if decision == NotApplicable || decision == Indeterminate {
+            if !policy.obligations.is_empty() {
+                self.met("own obligations lost", decision.name());
+            }
+            return answer;
+        }
+        let unknown_child = evaluated.iter().any(|child| child.decision == Indeterminate);
+        let mut givers = 0;
+        for child in evaluated.into_iter().filter(|child| !child.obligations.is_empty()) {
+            if child.decision == decision {
+                givers += 1;
+                answer.levels = answer.levels.max(child.levels + 1);
+                answer.obligations.extend(child.obligations);
+            } else {
+                self.met("child's obligations lost", (child.decision.name(), decision.name()));
+            }
+        }
+        let own = policy.obligations.iter().filter(|own| own.effect == decision);
+        let own: Vec<u16> = own.map(|own| own.number).collect();
+        if own.len() < policy.obligations.len() {
+            self.met("own obligations lost", "of the other effect");
+        }
+        if unknown_child && decision == Deny && !own.is_empty() {
+            self.met("own obligations kept", "Deny with an Indeterminate child");
+        }
+        self.count_kept(givers, &own, &answer);
+        answer.obligations.extend(own);
+        answer
+    }
+
+    fn count_kept(&mut self, givers: usize, own: &[u16], of_children: &Answer) {
+        let decision = of_children.decision.name();
+        let counts = [
+            (!own.is_empty(), "own obligations kept", decision),
+            (own.len() > 1, "own obligations kept", "several"),
+            (own.contains(&0), "own obligations kept", "number 0"),
+            (givers > 0, "child's obligations kept", decision),
+            (givers > 1, "child's obligations kept", "of several children"),
+            (givers > 0 && !own.is_empty(), "child's obligations kept", "with own after them"),
+            (of_children.levels > 1, "child's obligations kept", "over two levels or more"),
+        ];
+        for (holds, group, item) in counts {
+            if holds {
+                self.met(group, item);
+            }
+        }
+    }
+
+    /// Counts what children after the stop would have handed up.
+    fn count_after_stop(&mut self, decision: Decision, rest: &[Policy]) {
+        if self.asides > 0 {
+            return;
+        }
+        for policy in rest {
+            let answer = self.aside(|aside| aside.policy(policy));
+            if !answer.obligations.is_empty() {
+                let same = answer.decision == decision;
+                self.met("child's obligations lost", ("after the stop", if same { "same decision" } else { "other decision" }));
+            }
+        }
+    }
+
+    /// Counts what two applicable children of an only-one set would have handed up.
+    fn count_two_applicable(&mut self, first: &Policy, second: &Policy) {
+        if self.asides > 0 {
+            return;
+        }
+        let answers = [first, second].map(|policy| self.aside(|aside| aside.applicable(policy)));
+        if answers.iter().any(|answer| !answer.obligations.is_empty()) {
+            self.met("child's obligations lost", "two applicable");
+        }
+    }
+}
+
+/// What evaluated children gave beside the decision, in words for the counts.
+fn beside(decision: Decision, evaluated: &[Answer]) -> &'static str {
+    let gave = |other: Decision| other != decision && evaluated.iter().any(|child| child.decision == other);
+    if gave(Permit) {
+        "over Permit"
+    } else if gave(Deny) {
+        "over Deny"
+    } else if gave(Indeterminate) {
+        "over Indeterminate"
+    } else {
+        "alone"
+    }
+}
+
+/// Everything that a run of decisions must meet.
+pub fn wanted() -> Wanted {
+    let decisions = ["Permit", "Deny", "NotApplicable", "Indeterminate"];
+    let effects = ["Permit", "Deny"];
+    let mut wanted = wanted_truths();
+    wanted.extend([
+        ("decision of the root", pairs(&["policy", "set"], &decisions)),
+        ("rule", pairs(&effects, &["target No-match", "target Indeterminate", "no condition"])),
+        ("rule", pairs(&effects, &["condition True", "condition False", "condition Indeterminate"])),
+        ("policy or set", pairs(&["policy", "set"], &["target No-match", "target Indeterminate"])),
+        ("first-applicable over rules", pairs(&["Permit", "Deny", "Indeterminate"], &["of the first", "of a later one"])),
+        ("first-applicable over rules", pairs(&["NotApplicable"], &["no rules", "none applies"])),
+        ("deny-overrides over policies", pairs(&["Deny"], &["alone", "over Permit", "over Indeterminate"])),
+        ("deny-overrides over policies", pairs(&["Permit"], &["alone"])),
+        ("deny-overrides over policies", pairs(&["NotApplicable"], &["alone", "no children"])),
+        ("deny-overrides over policies", pairs(&["stopped by"], &["Deny", "Indeterminate"])),
+        ("permit-overrides over policies", pairs(&["Permit"], &["alone", "over Deny", "over Indeterminate"])),
+        ("permit-overrides over policies", pairs(&["Deny"], &["alone", "over Indeterminate"])),
+        ("permit-overrides over policies", pairs(&["Indeterminate"], &["alone"])),
+        ("permit-overrides over policies", pairs(&["NotApplicable"], &["alone", "no children"])),
+        ("first-applicable over policies", pairs(&["Permit", "Deny", "Indeterminate"], &["alone"])),
+        ("first-applicable over policies", pairs(&["NotApplicable"], &["alone", "no children"])),
+        ("first-applicable over policies", pairs(&["goes on after"], &["NotApplicable"])),
+        ("only-one-applicable", pairs(&["Indeterminate"], &["two Match", "a target", "a target, after a Match"])),
+        ("only-one-applicable", pairs(&["NotApplicable"], &["no children", "no Match"])),
+        ("only-one-applicable", pairs(&decisions, &["of the one that applies"])),
+        ("own obligations kept", words(&["Permit", "Deny", "several", "number 0", "Deny with an Indeterminate child"])),
+        ("own obligations lost", words(&["of the other effect", "NotApplicable", "Indeterminate"])),
+        ("own obligations lost", words(&["target No-match", "target Indeterminate"])),
+        ("child's obligations kept", words(&["Permit", "Deny", "of several children"])),
+        ("child's obligations kept", words(&["with own after them", "over two levels or more"])),
+        ("child's obligations lost", vec![("Permit", "Deny").into(), ("Deny", "Permit").into(), "two applicable".into()]),
+        ("child's obligations lost", pairs(&["after the stop"], &["same decision", "other decision"])),
+    ]);
+    for (group, strong, weak) in
+        [("deny-overrides over rules", "Deny", "Permit"), ("permit-overrides over rules", "Permit", "Deny")]
+    {
+        wanted.push((group, pairs(&[strong], &["stops", "after its Indeterminate rule"])));
+        wanted.push((group, pairs(&[weak], &["alone", "despite its Indeterminate rule"])));
+        wanted.push((group, pairs(&["Indeterminate"], &["overriding rule", "overriding rule, over the other effect", "other rule"])));
+        wanted.push((group, pairs(&["NotApplicable"], &["no rules", "none applies"])));
+    }
+    wanted
+}

@@ -1,0 +1,224 @@
+//! An accepted book as a tree, and an accepted request as keys with values.
+
+use crate::record::*;
+
+/// Also the number of a rule's or an obligation's effect: 1 Permit, 2 Deny.
+#[derive(Clone, Copy, PartialEq, Eq, Debug)]
+pub enum Decision {
+    Permit = 1,
+    Deny = 2,
+    NotApplicable = 3,
+    Indeterminate = 4,
+}
+
+impl Decision {
+    pub fn name(self) -> &'static str {
+        match self {
+            Decision::Permit => "Permit",
+            Decision::Deny => "Deny",
+            Decision::NotApplicable => "NotApplicable",
+            Decision::Indeterminate => "Indeterminate",
+        }
+    }
+}
+
+/// Two values are equal when they have one type and the same eight bytes; a double stands by its bytes.
+#[derive(Clone, Copy, PartialEq, Eq, Debug)]
+pub enum Value {
+    Integer(i64),
+    Name([u8; 8]),
+    Double(u64),
+}
+
+#[derive(Clone, Copy, PartialEq, Eq, Debug)]
+pub struct Key {
+    pub category: u8,
+    pub value_type: u8,
+    pub identifier: u16,
+}
+
+#[derive(Clone, Copy, PartialEq, Eq, Debug)]
+pub enum Function {
+    Equal,
+    Greater,
+    GreaterOrEqual,
+    Less,
+    LessOrEqual,
+}
+
+/// A match, or a comparison.
+pub struct Test {
+    pub function: Function,
+    pub key: Key,
+    pub must_be_present: bool,
+    pub literal: Value,
+}
+
+pub struct Conjunction(pub Vec<Test>);
+pub struct Section(pub Vec<Conjunction>);
+pub struct Target(pub Vec<Section>);
+
+pub enum Condition {
+    And(Vec<Condition>),
+    Or(Vec<Condition>),
+    Not(Box<Condition>),
+    Comparison(Test),
+}
+
+pub struct Rule {
+    pub effect: Decision,
+    pub target: Target,
+    pub condition: Option<Condition>,
+}
+
+#[derive(Clone, Copy, PartialEq, Eq, Debug)]
+pub enum Algorithm {
+    DenyOverrides,
+    PermitOverrides,
+    FirstApplicable,
+    OnlyOneApplicable,
+}
+
+pub struct Obligation {
+    pub effect: Decision,
+    pub number: u16,
+}
+
+pub enum Children {
+    Rules(Vec<Rule>),
+    Policies(Vec<Policy>),
+}
+
+/// A policy (over rules) or a policy set (over policies and sets).
+pub struct Policy {
+    pub algorithm: Algorithm,
+    pub target: Target,
+    pub children: Children,
+    pub obligations: Vec<Obligation>,
+}
+
+impl Policy {
+    pub fn name(&self) -> &'static str {
+        match self.children {
+            Children::Rules(_) => "policy",
+            Children::Policies(_) => "set",
+        }
+    }
+}
+
+pub struct Attribute {
+    pub key: Key,
+    pub value: Value,
+}
+
+/// The tree of an accepted book.
+pub fn tree(bytes: &[u8]) -> Policy {
+    policy(&records(bytes))
+}
+
+/// The keys and values of an accepted request, in its order.
+pub fn attributes(bytes: &[u8]) -> Vec<Attribute> {
+    let attribute = |entry: &Entry| {
+        let key = Key { category: entry.category(), value_type: entry.value_type(), identifier: entry.identifier() };
+        Attribute { key, value: value(entry.value_type(), entry.value()) }
+    };
+    entries(bytes).iter().map(attribute).collect()
+}
+
+/// The children of a record: each one's records. `subtree` has the record first.
+fn children(subtree: &[Record]) -> Vec<&[Record]> {
+    let mut children = Vec::new();
+    let mut at = 1;
+    while at < subtree.len() {
+        let end = at + subtree[at].span();
+        children.push(&subtree[at..end]);
+        at = end;
+    }
+    children
+}
+
+/// The children of one of these kinds, each turned into something by `make`.
+fn children_of<T>(subtree: &[Record], kinds: &[u8], make: fn(&[Record]) -> T) -> Vec<T> {
+    let chosen = children(subtree).into_iter().filter(|child| kinds.contains(&child[0].kind()));
+    chosen.map(make).collect()
+}
+
+fn policy(subtree: &[Record]) -> Policy {
+    let algorithm = match subtree[0].choice() {
+        1 => Algorithm::DenyOverrides,
+        2 => Algorithm::PermitOverrides,
+        3 => Algorithm::FirstApplicable,
+        _ => Algorithm::OnlyOneApplicable,
+    };
+    let below = if subtree[0].kind() == POLICY {
+        Children::Rules(children_of(subtree, &[RULE], rule))
+    } else {
+        Children::Policies(children_of(subtree, &[SET, POLICY], policy))
+    };
+    let obligations = children_of(subtree, &[OBLIGATION], obligation);
+    Policy { algorithm, target: target(subtree), children: below, obligations }
+}
+
+fn rule(subtree: &[Record]) -> Rule {
+    let condition = children_of(subtree, &[CONDITION], condition).pop();
+    Rule { effect: effect(&subtree[0]), target: target(subtree), condition }
+}
+
+fn obligation(subtree: &[Record]) -> Obligation {
+    Obligation { effect: effect(&subtree[0]), number: subtree[0].identifier() }
+}
+
+fn effect(record: &Record) -> Decision {
+    if record.choice() == 1 {
+        Decision::Permit
+    } else {
+        Decision::Deny
+    }
+}
+
+fn target(subtree: &[Record]) -> Target {
+    Target(children_of(subtree, &[SECTION], section))
+}
+
+fn section(subtree: &[Record]) -> Section {
+    Section(children_of(subtree, &[CONJUNCTION], conjunction))
+}
+
+fn conjunction(subtree: &[Record]) -> Conjunction {
+    Conjunction(children_of(subtree, &[MATCH], |leaf| test(&leaf[0], leaf[0].choice())))
+}
+
+fn condition(subtree: &[Record]) -> Condition {
+    let mut parts = children_of(subtree, &[CONDITION], condition);
+    match subtree[0].choice() {
+        AND => Condition::And(parts),
+        OR => Condition::Or(parts),
+        NOT => Condition::Not(Box::new(parts.remove(0))),
+        choice => Condition::Comparison(test(&subtree[0], choice - COMPARISON)),
+    }
+}
+
+fn test(record: &Record, function: u8) -> Test {
+    let function = match function {
+        1 => Function::Equal,
+        2 => Function::Greater,
+        3 => Function::GreaterOrEqual,
+        4 => Function::Less,
+        _ => Function::LessOrEqual,
+    };
+    let value_type = record.type_byte() % MUST_BE_PRESENT;
+    Test {
+        function,
+        key: Key { category: record.category(), value_type, identifier: record.identifier() },
+        must_be_present: record.type_byte() >= MUST_BE_PRESENT,
+        literal: value(value_type, record.value()),
+    }
+}
+
+fn value(value_type: u8, bytes: [u8; 8]) -> Value {
+    match value_type {
+        INTEGER => Value::Integer(i64::from_be_bytes(bytes)),
+        NAME => Value::Name(bytes),
+        _ => Value::Double(u64::from_be_bytes(bytes)),
+    }
+}

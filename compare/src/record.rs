@@ -1,0 +1,143 @@
+//! Records of a book and entries of a request: sixteen bytes each, and the words for their fields.
+
+pub const LENGTH: usize = 16;
+pub const MOST_RECORDS: usize = 1000;
+pub const MOST_ENTRIES: usize = 64;
+pub const MOST_DEPTH: usize = 16;
+
+pub const SET: u8 = 1;
+pub const POLICY: u8 = 2;
+pub const RULE: u8 = 3;
+pub const SECTION: u8 = 4;
+pub const CONJUNCTION: u8 = 5;
+pub const MATCH: u8 = 6;
+pub const CONDITION: u8 = 7;
+pub const OBLIGATION: u8 = 8;
+
+pub const AND: u8 = 1;
+pub const OR: u8 = 2;
+pub const NOT: u8 = 3;
+/// A comparison's choice is this and its function.
+pub const COMPARISON: u8 = 10;
+
+pub const INTEGER: u8 = 1;
+pub const NAME: u8 = 2;
+pub const DOUBLE: u8 = 3;
+/// Added to the type.
+pub const MUST_BE_PRESENT: u8 = 128;
+
+#[derive(Clone, Copy, PartialEq, Eq, Debug)]
+pub struct Record(pub [u8; LENGTH]);
+
+impl Record {
+    pub fn kind(&self) -> u8 {
+        self.0[0]
+    }
+
+    pub fn choice(&self) -> u8 {
+        self.0[1]
+    }
+
+    pub fn span(&self) -> usize {
+        usize::from(u16::from_be_bytes([self.0[2], self.0[3]]))
+    }
+
+    pub fn set_span(&mut self, span: usize) {
+        self.0[2..4].copy_from_slice(&(span as u16).to_be_bytes());
+    }
+
+    pub fn category(&self) -> u8 {
+        self.0[4]
+    }
+
+    /// Byte 5: the type, with must-be-present.
+    pub fn type_byte(&self) -> u8 {
+        self.0[5]
+    }
+
+    pub fn identifier(&self) -> u16 {
+        u16::from_be_bytes([self.0[6], self.0[7]])
+    }
+
+    pub fn value(&self) -> [u8; 8] {
+        self.0[8..].try_into().unwrap()
+    }
+
+    /// A match, a comparison or an obligation: it has no children.
+    pub fn is_leaf(&self) -> bool {
+        self.kind() == MATCH || self.kind() == OBLIGATION || self.is_comparison()
+    }
+
+    pub fn is_comparison(&self) -> bool {
+        self.kind() == CONDITION && self.choice() > COMPARISON
+    }
+
+    /// What the kind is called in the tables of counts.
+    pub fn name(&self) -> &'static str {
+        match self.kind() {
+            SET => "set",
+            POLICY => "policy",
+            RULE => "rule",
+            SECTION => "section",
+            CONJUNCTION => "conjunction",
+            MATCH => "match",
+            CONDITION if self.is_comparison() => "comparison",
+            CONDITION => "condition",
+            OBLIGATION => "obligation",
+            _ => "no kind",
+        }
+    }
+}
+
+#[derive(Clone, Copy, PartialEq, Eq, Debug)]
+pub struct Entry(pub [u8; LENGTH]);
+
+impl Entry {
+    pub fn new(category: u8, value_type: u8, identifier: u16, value: [u8; 8]) -> Entry {
+        let mut bytes = [0; LENGTH];
+        bytes[0] = category;
+        bytes[1] = value_type;
+        bytes[2..4].copy_from_slice(&identifier.to_be_bytes());
+        bytes[8..].copy_from_slice(&value);
+        Entry(bytes)
+    }
+
+    pub fn category(&self) -> u8 {
+        self.0[0]
+    }
+
+    pub fn value_type(&self) -> u8 {
+        self.0[1]
+    }
+
+    pub fn identifier(&self) -> u16 {
+        u16::from_be_bytes([self.0[2], self.0[3]])
+    }
+
+    pub fn value(&self) -> [u8; 8] {
+        self.0[8..].try_into().unwrap()
+    }
+}
+
+/// The whole records of these bytes.
+pub fn records(bytes: &[u8]) -> Vec<Record> {
+    bytes.chunks_exact(LENGTH).map(|chunk| Record(chunk.try_into().unwrap())).collect()
+}
+
+/// The whole entries of these bytes.
+pub fn entries(bytes: &[u8]) -> Vec<Entry> {
+    bytes.chunks_exact(LENGTH).map(|chunk| Entry(chunk.try_into().unwrap())).collect()
+}
+
+pub fn book_bytes(records: &[Record]) -> Vec<u8> {
+    records.iter().flat_map(|record| record.0).collect()
+}
+
+pub fn request_bytes(entries: &[Entry]) -> Vec<u8> {
+    entries.iter().flat_map(|entry| entry.0).collect()
+}
+
+/// Whether eight bytes are a finite IEEE 754 binary64 number.
+pub fn is_finite(value: [u8; 8]) -> bool {
+    f64::from_be_bytes(value).is_finite()
+}

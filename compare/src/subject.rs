@@ -1,0 +1,51 @@
+//! What is compared: the calls of the proved libraries, each as a trait, so that a test can put
+//! something else in their place.
+
+use crate::refusal::{Part, Refusal};
+
+/// Reading, writing and judging. Answers are packed: 256 times what was filled or counted, or the refusal.
+pub trait Probe: Sync {
+    fn read(&self, part: Part, text: &[u8], out: &mut [u8]) -> u64;
+    fn write(&self, part: Part, bytes: &[u8], out: &mut [u8]) -> u64;
+    /// 256 x records + 16,777,216 x obligation records.
+    fn judge_book(&self, book: &[u8]) -> u64;
+    /// 256 x entries.
+    fn judge_request(&self, request: &[u8]) -> u64;
+}
+
+/// The C host's call.
+pub trait Host: Sync {
+    fn decide(&self, book: &[u8], request: &[u8], out: &mut [u8]) -> u64;
+}
+
+#[derive(Clone, Copy, PartialEq, Eq, Debug)]
+pub enum TickAnswer {
+    Running,
+    Finished { decision: u64, count: usize },
+    Refused(Refusal),
+}
+
+#[derive(Clone, Copy, PartialEq, Eq, Debug)]
+pub struct Tick {
+    pub answer: TickAnswer,
+    pub steps: u64,
+}
+
+/// A field of the state: the number it is in, its lowest bit, its width in bits.
+#[derive(Clone, Copy)]
+pub struct Field {
+    pub number: usize,
+    pub low: u32,
+    pub width: u32,
+}
+
+/// Translating and running over ticks.
+pub trait Rig: Sync {
+    /// 256 x entries filled, or the refusal.
+    fn translate(&self, book: &[u8], programme: &mut [u64]) -> u64;
+    /// 0, or the refusal.
+    fn fresh(&self, state: &mut [u64]) -> u64;
+    fn tick(&self, programme: &[u64], request: &[u8], state: &mut [u64], budget: u64, out: &mut [u16]) -> Tick;
+    /// The fields of the published layout.
+    fn fields(&self) -> Vec<Field>;
+}

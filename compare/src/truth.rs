@@ -1,0 +1,269 @@
+//! Bag, match, comparison, logic and target of document 01, from left to right and stopping where a
+//! part settles the answer. Each thing met on the way is counted.
+
+use crate::policy::*;
+use crate::tally::{pairs, words, Item, Tally, Wanted};
+
+#[derive(Clone, Copy, PartialEq, Eq, Debug)]
+pub enum Truth {
+    True,
+    False,
+    Unknown,
+}
+
+pub struct Evaluator<'a> {
+    pub attributes: &'a [Attribute],
+    pub tally: &'a mut Tally,
+    /// Above 0 while something is evaluated only to name a count.
+    pub asides: usize,
+    /// The records looked at.
+    pub looked_at: u64,
+}
+
+impl Evaluator<'_> {
+    pub fn met(&mut self, group: &'static str, item: impl Into<Item>) {
+        if self.asides == 0 {
+            self.tally.met(group, item);
+        }
+    }
+
+    pub fn look(&mut self) {
+        if self.asides == 0 {
+            self.looked_at += 1;
+        }
+    }
+
+    /// Evaluates something that the decision does not depend on; nothing of it is counted.
+    pub fn aside<T>(&mut self, evaluate: impl FnOnce(&mut Self) -> T) -> T {
+        self.asides += 1;
+        let result = evaluate(self);
+        self.asides -= 1;
+        result
+    }
+
+    /// The request values of a key, in request order.
+    fn bag(&self, key: Key) -> Vec<Value> {
+        let of_key = self.attributes.iter().filter(|attribute| attribute.key == key);
+        of_key.map(|attribute| attribute.value).collect()
+    }
+
+    fn matching(&mut self, test: &Test) -> Truth {
+        self.look();
+        let bag = self.bag(test.key);
+        if bag.is_empty() && test.must_be_present {
+            self.met("match", "empty bag, must be present: Indeterminate");
+            return Truth::Unknown;
+        }
+        for (index, &value) in bag.iter().enumerate() {
+            self.met(match_group(test.function), relation(test.literal, value));
+            if holds(test.function, test.literal, value) {
+                self.met("match", if index == 0 { "True by the first value" } else { "True by a later value" });
+                return Truth::True;
+            }
+        }
+        self.met("match", ["empty bag: False", "one value: False", "several values: False"][bag.len().min(2)]);
+        Truth::False
+    }
+
+    fn comparison(&mut self, test: &Test) -> Truth {
+        let bag = self.bag(test.key);
+        let presence = if test.must_be_present { "must be present" } else { "may be absent" };
+        if let [value] = bag[..] {
+            self.met(comparison_group(test.function), relation(test.literal, value));
+            let truth = if holds(test.function, test.literal, value) { Truth::True } else { Truth::False };
+            self.met("comparison", (truth_name(truth), presence));
+            return truth;
+        }
+        let why = if bag.is_empty() { "empty bag: Indeterminate" } else { "several values: Indeterminate" };
+        self.met("comparison", (why, presence));
+        Truth::Unknown
+    }
+
+    /// And over the parts (`settles` is False), or or (`settles` is True).
+    fn logic<T>(&mut self, name: &'static str, settles: Truth, parts: &[T], each: fn(&mut Self, &T) -> Truth) -> Truth {
+        let mut so_far = not(settles);
+        for part in parts {
+            let truth = each(self, part);
+            if truth == settles {
+                let after = if so_far == Truth::Unknown { "after an Indeterminate" } else { "settled" };
+                self.met(name, (truth_name(truth), after));
+                return settles;
+            }
+            if truth == Truth::Unknown {
+                so_far = Truth::Unknown;
+            }
+        }
+        self.met(name, (truth_name(so_far), if parts.is_empty() { "no parts" } else { "all parts seen" }));
+        so_far
+    }
+
+    pub fn condition(&mut self, condition: &Condition) -> Truth {
+        self.look();
+        match condition {
+            Condition::And(parts) => self.logic("and", Truth::False, parts, Self::condition),
+            Condition::Or(parts) => self.logic("or", Truth::True, parts, Self::condition),
+            Condition::Not(part) => {
+                let truth = not(self.condition(part));
+                self.met("not", truth_name(truth));
+                truth
+            }
+            Condition::Comparison(test) => self.comparison(test),
+        }
+    }
+
+    fn conjunction(&mut self, conjunction: &Conjunction) -> Truth {
+        self.look();
+        self.logic("conjunction", Truth::False, &conjunction.0, Self::matching)
+    }
+
+    fn section(&mut self, section: &Section) -> Truth {
+        self.look();
+        self.logic("section", Truth::True, &section.0, Self::conjunction)
+    }
+
+    /// True is Match, False is No-match.
+    pub fn target(&mut self, target: &Target) -> Truth {
+        let mut so_far = Truth::True;
+        for (index, section) in target.0.iter().enumerate() {
+            match self.section(section) {
+                Truth::True => {}
+                Truth::False => so_far = Truth::False,
+                Truth::Unknown => {
+                    self.count_unknown_target(so_far, &target.0[index + 1..]);
+                    return Truth::Unknown;
+                }
+            }
+        }
+        let sections = if target.0.is_empty() { "no sections" } else { "all sections seen" };
+        self.met("target", (if so_far == Truth::True { "Match" } else { "No-match" }, sections));
+        so_far
+    }
+
+    /// Counts an Indeterminate section with a No-match before it or after it.
+    fn count_unknown_target(&mut self, before: Truth, later: &[Section]) {
+        let missed_later = self.aside(|aside| later.iter().any(|section| aside.section(section) == Truth::False));
+        let beside = match (before, missed_later) {
+            (Truth::False, _) => "after a No-match",
+            (_, true) => "before a No-match",
+            _ => "no No-match",
+        };
+        self.met("target", ("Indeterminate", beside));
+    }
+}
+
+fn not(truth: Truth) -> Truth {
+    match truth {
+        Truth::True => Truth::False,
+        Truth::False => Truth::True,
+        Truth::Unknown => Truth::Unknown,
+    }
+}
+
+/// The function, literal first.
+fn holds(function: Function, literal: Value, value: Value) -> bool {
+    match function {
+        Function::Equal => literal == value,
+        Function::Greater => greater(literal, value),
+        Function::GreaterOrEqual => greater(literal, value) || literal == value,
+        Function::Less => greater(value, literal),
+        Function::LessOrEqual => greater(value, literal) || literal == value,
+    }
+}
+
+fn greater(left: Value, right: Value) -> bool {
+    match (left, right) {
+        (Value::Integer(left), Value::Integer(right)) => left > right,
+        (Value::Double(left), Value::Double(right)) => f64::from_bits(left) > f64::from_bits(right),
+        _ => false,
+    }
+}
+
+// Names for the tables of counts
+
+/// How a literal stands to a request value of its type.
+fn relation(literal: Value, value: Value) -> (&'static str, &'static str) {
+    let type_name = match value {
+        Value::Integer(_) => "integer",
+        Value::Name(_) => "name",
+        Value::Double(_) => "double",
+    };
+    let how = if literal == value {
+        "same"
+    } else if greater(literal, value) {
+        "literal above"
+    } else if greater(value, literal) {
+        "literal below"
+    } else if type_name == "name" {
+        "other"
+    } else {
+        "the other zero"
+    };
+    (type_name, how)
+}
+
+pub fn truth_name(truth: Truth) -> &'static str {
+    match truth {
+        Truth::True => "True",
+        Truth::False => "False",
+        Truth::Unknown => "Indeterminate",
+    }
+}
+
+fn match_group(function: Function) -> &'static str {
+    match function {
+        Function::Equal => "match: equal",
+        Function::Greater => "match: greater",
+        Function::GreaterOrEqual => "match: greater or equal",
+        Function::Less => "match: less",
+        Function::LessOrEqual => "match: less or equal",
+    }
+}
+
+fn comparison_group(function: Function) -> &'static str {
+    match function {
+        Function::Equal => "comparison: equal",
+        Function::Greater => "comparison: greater",
+        Function::GreaterOrEqual => "comparison: greater or equal",
+        Function::Less => "comparison: less",
+        Function::LessOrEqual => "comparison: less or equal",
+    }
+}
+
+/// What a run of decisions must meet of matches, comparisons, logic and targets.
+pub fn wanted_truths() -> Wanted {
+    let mut wanted = vec![
+        ("match", words(&["empty bag, must be present: Indeterminate", "empty bag: False", "one value: False"])),
+        ("match", words(&["several values: False", "True by the first value", "True by a later value"])),
+        (
+            "comparison",
+            pairs(
+                &["True", "False", "empty bag: Indeterminate", "several values: Indeterminate"],
+                &["must be present", "may be absent"],
+            ),
+        ),
+        ("and", pairs(&["False"], &["settled", "after an Indeterminate"])),
+        ("and", vec![("True", "no parts").into(), ("True", "all parts seen").into(), ("Indeterminate", "all parts seen").into()]),
+        ("or", pairs(&["True"], &["settled", "after an Indeterminate"])),
+        ("or", vec![("False", "no parts").into(), ("False", "all parts seen").into(), ("Indeterminate", "all parts seen").into()]),
+        ("not", words(&["True", "False", "Indeterminate"])),
+        ("conjunction", pairs(&["False"], &["settled", "after an Indeterminate"])),
+        ("conjunction", pairs(&["True", "Indeterminate"], &["all parts seen"])),
+        ("section", pairs(&["True"], &["settled", "after an Indeterminate"])),
+        ("section", pairs(&["False", "Indeterminate"], &["all parts seen"])),
+        ("target", pairs(&["Match"], &["no sections", "all sections seen"])),
+        ("target", pairs(&["No-match"], &["all sections seen"])),
+        ("target", pairs(&["Indeterminate"], &["after a No-match", "before a No-match", "no No-match"])),
+    ];
+    for function in
+        [Function::Equal, Function::Greater, Function::GreaterOrEqual, Function::Less, Function::LessOrEqual]
+    {
+        for group in [match_group(function), comparison_group(function)] {
+            wanted.push((group, pairs(&["integer", "double"], &["same", "literal above", "literal below"])));
+            wanted.push((group, pairs(&["double"], &["the other zero"])));
+            if function == Function::Equal {
+                wanted.push((group, pairs(&["name"], &["same", "other"])));
+            }
+        }
+    }
+    wanted
+}

@@ -1,0 +1,191 @@
+-- Laws of the field rules: one for each return of the functions that test them. Assumes nothing.
+use mathlib.Core.Path.{_≡_, refl, sym, ap, _∙_}
+use mathlib.Core.Bool.{Bool, true, false}
+use mathlib.Core.List.{List}
+use Prim.Native.Nat.{ℕ, zero, suc, _+_, _-_, _*_, _≤_, _<_}
+use native.Mathlib.Omega.{arith}
+use lib.Dec.{leb, eqb}
+use lib.ListN.{getD}
+use borrow.Author.Tests.{le-leb, lt-leb, eq-eqb, ne-eqb}
+use Rattle.record.specs.Choose.{if, both, among}
+use Rattle.record.specs.Bytes.{size, byteOf, spanOf, bigOf}
+use Rattle.fields.specs.First.{allBelow, countBelow}
+use Rattle.fields.specs.Fields.{categoryOk, typeOf, typeAt, finite, valueOk, functionOk, zeros, plainOk, sectionOk, comparesOk, obligationOk, obligationsOf}
+use Rattle.fields.specs.Entries.{entryOk}
+use Rattle.fields.specs.declared.Sort.{Sort}
+use Rattle.fields.proofs.First.{all-same, all-split, count-more}
+
+both-false : (a b : Bool) → b ≡ false → both a b ≡ false
+both-false true b p = p
+both-false false b p = refl
+
+-- a number outside, and inside
+pub below-among : (low high n : ℕ) → n < low → among low high n ≡ false
+below-among low high n h = simp (lt-leb low n h)
+
+pub above-among : (low high n : ℕ) → high < n → among low high n ≡ false
+above-among low high n h = both-false (leb low n) (leb n high) (lt-leb n high h)
+
+pub in-among : (low high n : ℕ) → low ≤ n → n ≤ high → among low high n ≡ true
+in-among low high n h g = simp (le-leb low n h, le-leb n high g)
+
+pub not-logic : (c : ℕ) → (c ≡ 1 → ⊥) → (c ≡ 2 → ⊥) → among 1 2 c ≡ false
+not-logic zero p q = refl
+not-logic (suc zero) p q = absurd (p refl)
+not-logic (suc (suc zero)) p q = absurd (q refl)
+not-logic (suc (suc (suc c))) p q = above-among 1 2 (suc (suc (suc c))) (omega arith)
+
+pub not-three : (c : ℕ) → (c ≡ 3 → ⊥) → among 3 3 c ≡ false
+not-three zero p = refl
+not-three (suc zero) p = refl
+not-three (suc (suc zero)) p = refl
+not-three (suc (suc (suc zero))) p = absurd (p refl)
+not-three (suc (suc (suc (suc c)))) p = above-among 3 3 (suc (suc (suc (suc c)))) (omega arith)
+
+-- bytes are zero where their number is
+same-byte : (b : List ℕ) (m n : ℕ) → m ≡ n → eqb (getD b m 0) 0 ≡ eqb (getD b n 0) 0
+same-byte b m n e = rw e
+
+sum-zero : (x y : ℕ) → eqb (x * 256 + y) 0 ≡ both (eqb x 0) (eqb y 0)
+sum-zero zero y = let e : 0 * 256 + y ≡ y = omega arith in rw e
+sum-zero (suc x) y = rw (ne-eqb (suc x * 256 + y) 0 (λ e. omega arith), ne-eqb (suc x) 0 (λ e. omega arith))
+
+all-big : (b : List ℕ) (at n : ℕ) → allBelow (λ (j : ℕ). eqb (getD b (at + j) 0) 0) n ≡ eqb (bigOf b at n) 0
+unfolding allBelow bigOf
+all-big b at zero = refl
+all-big b at (suc n) = rw (all-big b at n, sum-zero (bigOf b at n) (getD b (at + n) 0))
+
+pub zeros-big : (b : List ℕ) (i a z : ℕ) → zeros b i a z ≡ eqb (bigOf b (i * size + a) (z - a)) 0
+unfolding zeros
+zeros-big b i a z = all-same _ _ (z - a) (λ j. same-byte b (i * 16 + (a + j)) (i * 16 + a + j) (omega arith)) ∙ all-big b (i * 16 + a) (z - a)
+
+zeros-split : (b : List ℕ) (i a m n : ℕ) → zeros b i a (a + m + n) ≡ both (zeros b i a (a + m)) (zeros b i (a + m) (a + m + n))
+unfolding zeros
+zeros-split b i a m n =
+    let x : a + m + n - a ≡ m + n = omega arith in
+    let y : a + m - a ≡ m = omega arith in
+    let z : a + m + n - (a + m) ≡ n = omega arith in
+    let F : ℕ → Bool = λ (j : ℕ). eqb (byteOf b i (a + j)) 0 in
+    let s : allBelow (λ (j : ℕ). F (m + j)) n ≡ allBelow (λ (j : ℕ). eqb (byteOf b i (a + m + j)) 0) n =
+    all-same _ _ n (λ j. same-byte b (i * 16 + (a + (m + j))) (i * 16 + (a + m + j)) (omega arith)) in
+    rw (x, y, z) (all-split F m n ∙ ap (both (allBelow F m)) s)
+
+zeros-one : (b : List ℕ) (i a : ℕ) → zeros b i a (a + 1) ≡ eqb (byteOf b i a) 0
+unfolding zeros allBelow
+zeros-one b i a =
+    let e : a + 1 - a ≡ 1 = omega arith in
+    let z : a + 0 ≡ a = omega arith in
+    rw (e, z)
+
+-- the bytes from 8 on as a number y
+module _ (b : List ℕ) (i : ℕ) {y : ℕ} (ey : y ≡ bigOf b (i * size + 8) 8) where
+  back : zeros b i 8 size ≡ eqb y 0
+  back = rw (zeros-big b i 8 16, ← ey)
+
+  from-4 : {x : ℕ} → x ≡ bigOf b (i * size + 4) 4 → zeros b i 4 size ≡ both (eqb x 0) (eqb y 0)
+  from-4 ex = rw (zeros-split b i 4 4 8, back, zeros-big b i 4 8, ← ex)
+
+  from-5 : {w x : ℕ} → w ≡ byteOf b i 5 → x ≡ bigOf b (i * size + 6) 2 → zeros b i 5 size ≡ both (eqb w 0) (both (eqb x 0) (eqb y 0))
+  from-5 ew ex = rw (zeros-split b i 5 1 10, zeros-one b i 5, zeros-split b i 6 2 8, back, zeros-big b i 6 8, ← ew, ← ex)
+
+  but-6 : {x : ℕ} → x ≡ bigOf b (i * size + 4) 2 → both (zeros b i 4 6) (zeros b i 8 size) ≡ both (eqb x 0) (eqb y 0)
+  but-6 ex = rw (back, zeros-big b i 4 6, ← ex)
+
+-- a record that uses no byte but kind, choice and span
+module _ (b : List ℕ) (i s : ℕ) {t : ℕ} (et : t ≡ spanOf b i) where
+  pub plain-short : t < s → false ≡ plainOk b i s
+  unfolding plainOk
+  plain-short h = rw (← et, lt-leb s t h)
+
+  module _ (h : s ≤ t) {x : ℕ} (ex : x ≡ bigOf b (i * size + 4) 4) where
+    pub plain-front : (x ≡ 0 → ⊥) → false ≡ plainOk b i s
+    unfolding plainOk
+    plain-front n = rw (← et, le-leb s t h, from-4 b i refl ex, ne-eqb x 0 n)
+
+    pub plain-rest : x ≡ 0 → {y : ℕ} → y ≡ bigOf b (i * size + 8) 8 → eqb y 0 ≡ plainOk b i s
+    unfolding plainOk
+    plain-rest e ey = rw (← et, le-leb s t h, from-4 b i ey ex, eq-eqb x 0 e)
+
+-- a section
+module _ (b : List ℕ) (i : ℕ) {t : ℕ} (et : t ≡ spanOf b i) where
+  pub section-short : t < 2 → false ≡ sectionOk b i
+  unfolding sectionOk
+  section-short h = rw (← et, lt-leb 2 t h)
+
+  module _ (h : 2 ≤ t) {c : ℕ} {u : Bool} (ec : c ≡ byteOf b i 4) (eu : u ≡ categoryOk c) where
+    pub section-category : u ≡ false → false ≡ sectionOk b i
+    unfolding sectionOk
+    section-category q = rw (← et, le-leb 2 t h, ← ec, ← eu, q)
+
+    module _ (q : u ≡ true) {w : ℕ} (ew : w ≡ byteOf b i 5) where
+      pub section-type : (w ≡ 0 → ⊥) → false ≡ sectionOk b i
+      unfolding sectionOk
+      section-type n = rw (← et, le-leb 2 t h, ← ec, ← eu, q, from-5 b i refl ew refl, ne-eqb w 0 n)
+
+      module _ (e : w ≡ 0) {x : ℕ} (ex : x ≡ bigOf b (i * size + 6) 2) where
+        pub section-name : (x ≡ 0 → ⊥) → false ≡ sectionOk b i
+        unfolding sectionOk
+        section-name n = rw (← et, le-leb 2 t h, ← ec, ← eu, q, from-5 b i refl ew ex, eq-eqb w 0 e, ne-eqb x 0 n)
+
+        pub section-rest : x ≡ 0 → {y : ℕ} → y ≡ bigOf b (i * size + 8) 8 → eqb y 0 ≡ sectionOk b i
+        unfolding sectionOk
+        section-rest z ey = rw (← et, le-leb 2 t h, ← ec, ← eu, q, from-5 b i ey ew ex, eq-eqb w 0 e, eq-eqb x 0 z)
+
+-- a match or a comparison
+module _ (b : List ℕ) (i f : ℕ) {k : Sort} {t : ℕ} (ek : k ≡ typeAt b i) (et : t ≡ spanOf b i) where
+  pub compares-span : (t ≡ 1 → ⊥) → false ≡ comparesOk b i f
+  unfolding comparesOk
+  compares-span n = rw (← et, ne-eqb t 1 n)
+
+  module _ (h : t ≡ 1) {c : ℕ} {u : Bool} (ec : c ≡ byteOf b i 4) (eu : u ≡ categoryOk c) where
+    pub compares-category : u ≡ false → false ≡ comparesOk b i f
+    unfolding comparesOk
+    compares-category q = rw (← et, eq-eqb t 1 h, ← ec, ← eu, q)
+
+    module _ (q : u ≡ true) {n v : Bool} (en : n ≡ finite b i) (ev : v ≡ valueOk k n) where
+      pub compares-value : v ≡ false → false ≡ comparesOk b i f
+      unfolding comparesOk
+      compares-value z = rw (← et, eq-eqb t 1 h, ← ec, ← eu, q, ← ek, ← en, ← ev, z)
+
+      pub compares-rest : v ≡ true → {w : Bool} → w ≡ functionOk k f → w ≡ comparesOk b i f
+      unfolding comparesOk
+      compares-rest z ew = rw (← et, eq-eqb t 1 h, ← ec, ← eu, q, ← ek, ← en, ← ev, z) ew
+
+-- an obligation
+module _ (b : List ℕ) (i : ℕ) {t : ℕ} (et : t ≡ spanOf b i) where
+  pub obligation-span : (t ≡ 1 → ⊥) → false ≡ obligationOk b i
+  unfolding obligationOk
+  obligation-span n = rw (← et, ne-eqb t 1 n)
+
+  module _ (h : t ≡ 1) {x : ℕ} (ex : x ≡ bigOf b (i * size + 4) 2) where
+    pub obligation-front : (x ≡ 0 → ⊥) → false ≡ obligationOk b i
+    unfolding obligationOk
+    obligation-front n = rw (← et, eq-eqb t 1 h, but-6 b i refl ex, ne-eqb x 0 n)
+
+    pub obligation-rest : x ≡ 0 → {y : ℕ} → y ≡ bigOf b (i * size + 8) 8 → eqb y 0 ≡ obligationOk b i
+    unfolding obligationOk
+    obligation-rest e ey = rw (← et, eq-eqb t 1 h, but-6 b i ey ex, eq-eqb x 0 e)
+
+-- an entry of a request
+module _ (q : List ℕ) (i : ℕ) {c : ℕ} {u : Bool} (ec : c ≡ byteOf q i 0) (eu : u ≡ categoryOk c) where
+  pub entry-category : u ≡ false → false ≡ entryOk q i
+  unfolding entryOk
+  entry-category z = rw (← ec, ← eu, z)
+
+  module _ (h : u ≡ true) {t : ℕ} {k : Sort} {n v : Bool} (et : t ≡ byteOf q i 1) (ek : k ≡ typeOf t) (en : n ≡ finite q i) (ev : v ≡ valueOk k n) where
+    pub entry-value : v ≡ false → false ≡ entryOk q i
+    unfolding entryOk
+    entry-value z = rw (← ec, ← eu, h, ← et, ← ek, ← en, ← ev, z)
+
+    pub entry-rest : v ≡ true → {x : ℕ} → x ≡ bigOf q (i * size + 4) 4 → eqb x 0 ≡ entryOk q i
+    unfolding entryOk
+    entry-rest z ex = rw (← ec, ← eu, h, ← et, ← ek, ← en, ← ev, z, zeros-big q i 4 8, ← ex)
+
+-- obligation records, counted one by one
+pub obligations-none : (b : List ℕ) → 0 ≡ obligationsOf b 0
+unfolding obligationsOf countBelow
+obligations-none b = refl
+
+pub obligations-more : (b : List ℕ) (i : ℕ) {m k d : ℕ} → m ≡ obligationsOf b i → k ≡ byteOf b i 0 → d ≡ if (eqb k 8) 1 0 → m + d ≡ obligationsOf b (i + 1)
+unfolding obligationsOf
+obligations-more b i em ek ed = rw (count-more (λ (j : ℕ). eqb (byteOf b j 0) 8) i, ← em, ← ek, ← ed)

@@ -1,0 +1,4 @@
+pub mod First
+pub mod Fields
+pub mod Entries
+pub mod Known

@@ -1,0 +1,2 @@
+-- What the proofs of several functions, and of other crates, use.
+pub mod Laws

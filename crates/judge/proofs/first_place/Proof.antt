@@ -1,0 +1,40 @@
+use Rattle.judge.proofs.Laws.{top-kind, top-span, top-walk, top-rest}
+use borrow.Author.Tests.{not-true, not-false}
+use native.Mathlib.Omega.{arith}
+use borrow.Author.Needs.{needs}
+use Rattle.judge.proofs.first_place.Statement.{statement}
+use Rattle.judge.proofs.first_place.Tie as tie
+use Rattle.judge.proofs.first_place.Reads as reads
+use Rattle.judge.proofs.first_place.Lts as lts
+use Rattle.record.proofs.byte.Reads as byte-reads
+use Rattle.fields.proofs.kind_at.Reads as kind-at-reads
+use Rattle.record.proofs.span.Reads as span-reads
+use Rattle.judge.proofs.number.Reads as number-reads
+use Rattle.judge.proofs.up_to.Reads as up-to-reads
+use Rattle.judge.proofs.walk.Reads as walk-reads
+
+returns : tie.Need-returns
+returns c = top-kind _ (c .before .before .before .before .before .before .pre .0) (c .before .before .before .before .before .before .pre .1) (c .before .before .before .before .kind-at .ensures) (c .before .before .before .number .ensures) (c .before .up-to .ensures) (not-true _ (c .if1 .taken))
+
+returns-2 : tie.Need-returns-2
+returns-2 c = top-span _ (c .before .before .before .before .before .before .before .before .pre .0) (c .before .before .before .before .before .before .before .before .pre .1) (c .before .before .before .before .before .before .kind-at .ensures) (c .before .before .before .before .before .number .ensures) (c .before .before .before .up-to .ensures) (not-false _ (c .before .before .if1 .left)) (c .before .span .ensures .0) (c .if2 .taken)
+
+walk-requires : tie.Need-walk-requires
+walk-requires c κs = (omega arith, omega arith, omega arith, top-walk _ (c .before .before .before .before .before .before .before .before .pre .0) (c .before .before .before .before .before .before .before .before .pre .1) (c .before .before .before .before .before .before .kind-at .ensures) (c .before .before .before .before .before .number .ensures) (c .before .before .before .up-to .ensures) (not-false _ (c .before .before .if1 .left)) (c .before .span .ensures .0) (c .if2 .left) (c .before .before .before .before .before .before .before .before .pre .2) (c .before .before .before .before .byte .ensures .0))
+
+returns-3 : tie.Need-returns-3
+returns-3 c = top-rest _ (c .before .before .before .before .before .before .before .before .before .pre .0) (c .before .before .before .before .before .before .before .before .before .pre .1) (c .before .before .before .before .before .before .before .kind-at .ensures) (c .before .before .before .before .before .before .number .ensures) (c .before .before .before .before .up-to .ensures) (not-false _ (c .before .before .before .if1 .left)) (c .before .before .span .ensures .0) (c .before .if2 .left) (c .walk .ensures)
+
+pub first-place-spec : {M : Type 1} → statement M
+first-place-spec =
+    tie.close
+    (tie.spec
+    (λ c κs. search needs)
+    (λ c κs. search needs)
+    (λ c κs. search needs)
+    (λ c κs. search needs)
+    returns
+    (λ c κs. search needs)
+    returns-2
+    walk-requires
+    returns-3)

@@ -1,0 +1,5 @@
+pub mod Place
+pub mod Walk
+pub mod Judge
+pub mod Request
+

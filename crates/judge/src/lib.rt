@@ -1,0 +1,295 @@
+// Judging record bytes: a book's, and a request's.
+use fields::Kind;
+use record::Refusal;
+ghost use mathlib.Core.Path.{_≡_};
+ghost use Prim.Native.Nat.{_+_, _*_, _-_, _<_, _≤_};
+ghost use lib.ListN.{length};
+ghost use Rattle.record.specs.Choose.{among};
+ghost use Rattle.fields.specs.First.{firstFrom};
+ghost use Rattle.fields.specs.Fields.{fieldOk};
+ghost use Rattle.judge.specs.Place.{numberOf, holdsConditions, singleOf, takesOf, rankOf, stepOf, underOk, standsOk, childRule};
+ghost use Rattle.judge.specs.Walk.{Walk, Finds};
+ghost use Rattle.judge.specs.Judge.{placeRefusal, judgeRecords, judgeOf};
+ghost use Rattle.judge.specs.Request.{judgeRequestOf};
+
+// A book has at most so many records, a request so many entries, nesting so many levels.
+const MOST_RECORDS: usize = 1000;
+const MOST_ENTRIES: usize = 64;
+const MOST_DEPTH: usize = 16;
+
+pub enum Judged {
+    Accepted { records: usize, obligations: usize },
+    Refused(Refusal),
+}
+
+pub enum JudgedRequest {
+    Accepted { entries: usize },
+    Refused(Refusal),
+}
+
+fn number(k: Kind) -> usize
+    ensures { λ r. ⌜ r ≡ numberOf k ⌝ }
+{
+    match k {
+        Kind::PolicySet => 1,
+        Kind::Policy => 2,
+        Kind::Rule => 3,
+        Kind::Section => 4,
+        Kind::Conjunction => 5,
+        Kind::Match => 6,
+        Kind::Logic => 71,
+        Kind::Not => 72,
+        Kind::Comparison => 73,
+        Kind::Obligation => 8,
+        Kind::Nothing => 0,
+    }
+}
+
+fn holds_conditions(p: usize) -> bool
+    ensures { λ r. ⌜ r ≡ holdsConditions p ⌝ }
+{
+    if p == 3 {
+        return true;
+    }
+    if p == 71 {
+        return true;
+    }
+    p == 72
+}
+
+fn single(p: usize) -> usize
+    ensures { λ r. ⌜ (r ≡ singleOf p) × (r ≤ 1) ⌝ }
+{
+    if p == 3 {
+        return 1;
+    }
+    if p == 72 {
+        return 1;
+    }
+    0
+}
+
+fn up_to(p: usize, high: usize) -> bool
+    ensures { λ r. ⌜ r ≡ among 1 high p ⌝ }
+{
+    if p < 1 {
+        return false;
+    }
+    p <= high
+}
+
+// Whether a parent of number p takes such a child.
+fn takes(p: usize, k: Kind) -> bool
+    ensures { λ r. ⌜ r ≡ takesOf p k ⌝ }
+{
+    match k {
+        Kind::PolicySet => p == 1,
+        Kind::Policy => p == 1,
+        Kind::Rule => p == 2,
+        Kind::Section => up_to(p, 3),
+        Kind::Conjunction => p == 4,
+        Kind::Match => p == 5,
+        Kind::Logic => holds_conditions(p),
+        Kind::Not => holds_conditions(p),
+        Kind::Comparison => holds_conditions(p),
+        Kind::Obligation => up_to(p, 2),
+        Kind::Nothing => false,
+    }
+}
+
+// Where a child of category c stands in the order of children.
+fn rank(k: Kind, c: usize) -> usize
+    requires { ⌜ c < 256 ⌝ }
+    ensures { λ r. ⌜ (r ≡ rankOf k c) × (r < 256) ⌝ }
+{
+    match k {
+        Kind::PolicySet => 5,
+        Kind::Policy => 5,
+        Kind::Rule => 5,
+        Kind::Section => c,
+        Kind::Conjunction => 5,
+        Kind::Match => 5,
+        Kind::Logic => 5,
+        Kind::Not => 5,
+        Kind::Comparison => 5,
+        Kind::Obligation => 6,
+        Kind::Nothing => 5,
+    }
+}
+
+// How far its rank must be above that of the child before.
+fn step(p: usize, k: Kind) -> usize
+    ensures { λ r. ⌜ (r ≡ stepOf p k) × (r ≤ 1) ⌝ }
+{
+    match k {
+        Kind::PolicySet => 0,
+        Kind::Policy => 0,
+        Kind::Rule => 0,
+        Kind::Section => 1,
+        Kind::Conjunction => 0,
+        Kind::Match => 0,
+        Kind::Logic => single(p),
+        Kind::Not => single(p),
+        Kind::Comparison => single(p),
+        Kind::Obligation => 0,
+        Kind::Nothing => 0,
+    }
+}
+
+fn under_ok(k: Kind, g: usize, c: usize) -> bool
+    ensures { λ r. ⌜ r ≡ underOk k g c ⌝ }
+{
+    match k {
+        Kind::PolicySet => true,
+        Kind::Policy => true,
+        Kind::Rule => true,
+        Kind::Section => true,
+        Kind::Conjunction => true,
+        Kind::Match => g == c,
+        Kind::Logic => true,
+        Kind::Not => true,
+        Kind::Comparison => true,
+        Kind::Obligation => true,
+        Kind::Nothing => true,
+    }
+}
+
+// Whether a child may stand there: p is its parent's number, e the rank of the child before, g the category of its parent's parent.
+fn stands(p: usize, k: Kind, c: usize, e: usize, g: usize) -> bool
+    requires { ⌜ (c < 256) × (e < 256) ⌝ }
+    ensures { λ r. ⌜ r ≡ standsOk p k c e g ⌝ }
+{
+    if !takes(p, k) {
+        return false;
+    }
+    if rank(k, c) < e + step(p, k) {
+        return false;
+    }
+    under_ok(k, g, c)
+}
+
+// The rule that a child breaks which ends at `end`, `top` being its parent's end and d its parent's depth; 0 for none.
+fn child_rule(end: usize, top: usize, d: usize, ok: bool) -> usize
+    ensures { λ r. ⌜ r ≡ childRule end top (d + 1) ok ⌝ }
+{
+    if top < end {
+        return 10;
+    }
+    if !ok {
+        return 11;
+    }
+    if MOST_DEPTH <= d {
+        return 12;
+    }
+    0
+}
+
+// A record that breaks a place rule, and which.
+struct Broken {
+    at: usize,
+    rule: usize,
+}
+
+// The first of the records after p and below top that breaks a place rule, and which; top and 0 where none does. They are p's children, and
+// what stands below them; top is p's end, d its depth, pn and pc its number and category, gc the category of its parent.
+fn walk(book: &[u8], p: usize, top: usize, d: usize, pn: usize, gc: usize, pc: usize) -> Broken
+    requires { ⌜ (top * 16 ≤ length (now book)) × (p < top) × (d ≤ 16) × Walk (now book) p (p + 1) top d pn gc pc 0 ⌝ }
+    ensures { λ r. ⌜ Finds (now (book .entry)) (p + 1) (top - (p + 1)) (r .at) (r .rule) ⌝ }
+{
+    let mut i = p + 1;
+    let mut er: usize = 0;
+    while i < top {
+        let k = fields::kind_at(book, i);
+        let c = record::byte(book, i, 4);
+        let next = i + record::span(book, i);
+        let rule = child_rule(next, top, d, stands(pn, k, c, er, gc));
+        if rule != 0 {
+            return Broken { at: i, rule };
+        }
+        let bad = walk(book, i, next, d + 1, number(k), pc, c);
+        if bad.at < next {
+            return bad;
+        }
+        er = rank(k, c);
+        i = next;
+    }
+    Broken { at: top, rule: 0 }
+}
+
+// The first of n records that breaks a place rule, and which; n and 0 where none does.
+fn first_place(book: &[u8], n: usize) -> Broken
+    requires { ⌜ (0 < n) × (length (now book) ≡ n * 16) × (firstFrom (fieldOk (now book)) 0 n ≡ n) ⌝ }
+    ensures { λ r. ⌜ Finds (now (book .entry)) 0 n (r .at) (r .rule) ⌝ }
+{
+    let k = number(fields::kind_at(book, 0));
+    let c = record::byte(book, 0, 4);
+    if !up_to(k, 2) {
+        return Broken { at: 0, rule: 9 };
+    }
+    if record::span(book, 0) != n {
+        return Broken { at: 0, rule: 9 };
+    }
+    walk(book, 0, n, 1, k, c, c)
+}
+
+// The refusal of a line that breaks a place rule.
+fn place_refusal(rule: usize, line: usize) -> Refusal
+    ensures { λ r. ⌜ r ≡ placeRefusal rule line ⌝ }
+{
+    record::bad_place(line)
+}
+
+fn judge_records(book: &[u8], n: usize) -> Judged
+    requires { ⌜ (0 < n) × (length (now book) ≡ n * 16) ⌝ }
+    ensures { λ r. ⌜ r ≡ judgeRecords (now (book .entry)) n ⌝ }
+{
+    let kept = fields::first_field(book, n);
+    let field = kept.records;
+    if field < n {
+        return Judged::Refused(record::bad_field(1, field + 1));
+    }
+    let found = first_place(book, n);
+    let place = found.at;
+    if place < n {
+        return Judged::Refused(place_refusal(found.rule, place + 1));
+    }
+    let obligations = kept.obligations;
+    Judged::Accepted {
+        records: n,
+        obligations,
+    }
+}
+
+// A book's record bytes: accepted, with the numbers of records and of obligation records, or the first refusal.
+pub fn judge_book(book: &[u8]) -> Judged
+    ensures { λ r. ⌜ r ≡ judgeOf (now (book .entry)) ⌝ }
+{
+    if book.len() == 0 {
+        return Judged::Refused(record::no_record(1));
+    }
+    if book.len() % record::SIZE != 0 {
+        return Judged::Refused(record::cut_short(1));
+    }
+    if MOST_RECORDS * record::SIZE < book.len() {
+        return Judged::Refused(record::too_many(1));
+    }
+    judge_records(book, book.len() / record::SIZE)
+}
+
+// A request's record bytes: accepted, with the number of entries, or the first refusal.
+pub fn judge_request(request: &[u8]) -> JudgedRequest
+    ensures { λ r. ⌜ r ≡ judgeRequestOf (now (request .entry)) ⌝ }
+{
+    if request.len() % record::SIZE != 0 {
+        return JudgedRequest::Refused(record::cut_short(2));
+    }
+    if MOST_ENTRIES * record::SIZE < request.len() {
+        return JudgedRequest::Refused(record::too_many(2));
+    }
+    let n = request.len() / record::SIZE;
+    let entry = fields::first_entry(request, n);
+    if entry < n {
+        return JudgedRequest::Refused(record::bad_field(2, entry + 1));
+    }
+    JudgedRequest::Accepted { entries: n }
+}

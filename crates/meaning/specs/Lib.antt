@@ -1,0 +1,5 @@
+pub mod Logic
+pub mod Numbers
+pub mod Policy
+pub mod Meaning
+pub mod Reading

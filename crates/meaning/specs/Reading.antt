@@ -1,0 +1,131 @@
+-- How record bytes encode a policy tree, and request bytes bags: document 01, "The book". Every forest of records is read, so that no claim waits
+-- for an acceptance: what no accepted book has is read as said here. Assumes nothing.
+use Prim.Native.Nat.{ℕ, zero, suc, _+_, _-_, _*_, _/_, _%_}
+use mathlib.Core.Bool.{Bool, true, false}
+use mathlib.Core.List.{List, [], _∷_, _++_}
+use lib.Dec.{eqb, ltb}
+use lib.ListN.{length}
+use Rattle.record.specs.Choose.{if, either}
+use Rattle.record.specs.Bytes.{size, byteOf, bigOf}
+use Rattle.record.specs.Forest.{Forest, none, node, forest}
+use Rattle.value.specs.Value.{functionOf}
+use Rattle.meaning.specs.Policy.{Some, last, more, Conjunction, Section, Target, Condition, compares, all, any, not, Conditions, noPart, part, When, always, whenever, Rule, Obligation, OverRules, rulesDeny, rulesPermit, rulesFirst, OverPolicies, policiesDeny, policiesPermit, policiesFirst, policiesOnlyOne, Tree, policy, set, Trees, noTree, tree}
+use Rattle.meaning.specs.Meaning.{Bags}
+use Rattle.meaning.specs.declared.Test.{Test}
+use Rattle.meaning.specs.declared.Effect.{Effect}
+use Rattle.meaning.specs.declared.Effect.the-variants.{Permits, Denies}
+
+-- the kinds that a policy tree is read by
+abbrev pub isKind : List ℕ → ℕ → ℕ → Bool
+isKind b i k = eqb (byteOf b i 0) k
+
+abbrev pub choiceAt : List ℕ → ℕ → ℕ
+choiceAt b i = byteOf b i 1
+
+-- the key of record i: byte 4 category, 5 type (without must-be-present), 6-7 identifier
+unfoldable pub keyAt : List ℕ → ℕ → ℕ
+keyAt b i = byteOf b i 4 * 16777216 + byteOf b i 5 % 128 * 65536 + byteOf b i 6 * 256 + byteOf b i 7
+
+-- record i as a test by function f; add 128 to byte 5 for must-be-present
+unfoldable pub testAt : List ℕ → ℕ → ℕ → Test
+testAt b i f = record { function = functionOf f; must = ltb 127 (byteOf b i 5); key = keyAt b i; literal = bigOf b (i * size + 8) 8 }
+
+-- a match by function 1-5, a comparison with choice 11-15 by function 1-5
+unfoldable pub matchAt : List ℕ → ℕ → Test
+matchAt b i = testAt b i (choiceAt b i)
+
+unfoldable pub comparisonAt : List ℕ → ℕ → Test
+comparisonAt b i = testAt b i (choiceAt b i - 10)
+
+-- record i with the children `kids`, and the records after it
+unfoldable pub rowOf : {A : Type 0} → (ℕ → Forest → A) → ℕ → Forest → Forest → Some A
+rowOf read i kids none = last (read i kids)
+rowOf read i kids (node j below rest) = more (read i kids) (rowOf read j below rest)
+
+-- the children of record i, at least one; where there is none it stands for its own child
+unfoldable pub childrenAt : {A : Type 0} → (ℕ → Forest → A) → ℕ → Forest → Some A
+childrenAt read i none = last (read i none)
+childrenAt read i (node j kids rest) = rowOf read j kids rest
+
+unfoldable pub conjunctionAt : List ℕ → ℕ → Forest → Conjunction
+conjunctionAt b i kids = childrenAt (λ (j : ℕ) (below : Forest). matchAt b j) i kids
+
+unfoldable pub sectionAt : List ℕ → ℕ → Forest → Section
+sectionAt b i kids = childrenAt (conjunctionAt b) i kids
+
+-- the sections that children begin with
+unfoldable pub targetIn : List ℕ → Forest → Target
+targetIn b none = []
+targetIn b (node i kids rest) = if (isKind b i 4) (sectionAt b i kids ∷ targetIn b rest) []
+
+-- 3 not: exactly one; without one it is read as a comparison
+abbrev pub notAt : List ℕ → ℕ → Conditions → Condition
+notAt b i noPart = compares (comparisonAt b i)
+notAt b i (part c cs) = not c
+
+-- 1 and, 2 or, 3 not, else a comparison
+unfoldable pub conditionAt : List ℕ → ℕ → Conditions → Condition
+conditionAt b i cs =
+    if (eqb (choiceAt b i) 1) (all cs)
+    (if (eqb (choiceAt b i) 2) (any cs)
+    (if (eqb (choiceAt b i) 3) (notAt b i cs)
+    (compares (comparisonAt b i))))
+
+unfoldable pub conditionsIn : List ℕ → Forest → Conditions
+conditionsIn b none = noPart
+conditionsIn b (node i kids rest) = part (conditionAt b i (conditionsIn b kids)) (conditionsIn b rest)
+
+-- the condition among a rule's children
+unfoldable pub whenIn : List ℕ → Forest → When
+whenIn b none = always
+whenIn b (node i kids rest) = if (isKind b i 7) (whenever (conditionAt b i (conditionsIn b kids))) (whenIn b rest)
+
+-- 1 Permit, 2 Deny
+abbrev pub effectOf : ℕ → Effect
+effectOf c = if (eqb c 1) Permits Denies
+
+unfoldable pub ruleAt : List ℕ → ℕ → Forest → Rule
+ruleAt b i kids = record { effect = effectOf (choiceAt b i); target = targetIn b kids; when = whenIn b kids }
+
+unfoldable pub rulesIn : List ℕ → Forest → List Rule
+rulesIn b none = []
+rulesIn b (node i kids rest) = if (isKind b i 3) (ruleAt b i kids ∷ rulesIn b rest) (rulesIn b rest)
+
+-- bytes 6-7 are an obligation's number
+abbrev pub obligationAt : List ℕ → ℕ → Obligation
+obligationAt b i = record { on = effectOf (choiceAt b i); number = bigOf b (i * size + 6) 2 }
+
+unfoldable pub obligationsIn : List ℕ → Forest → List Obligation
+obligationsIn b none = []
+obligationsIn b (node i kids rest) = if (isKind b i 8) (obligationAt b i ∷ obligationsIn b rest) (obligationsIn b rest)
+
+-- 1 deny-overrides, 2 permit-overrides, 3 first-applicable, 4 only-one-applicable
+abbrev pub rulesBy : ℕ → OverRules
+rulesBy c = if (eqb c 1) rulesDeny (if (eqb c 2) rulesPermit rulesFirst)
+
+abbrev pub policiesBy : ℕ → OverPolicies
+policiesBy c = if (eqb c 1) policiesDeny (if (eqb c 2) policiesPermit (if (eqb c 3) policiesFirst policiesOnlyOne))
+
+-- the set or policy at record i, with its children and the policies and sets among them
+unfoldable pub treeAt : List ℕ → ℕ → Forest → Trees → Tree
+treeAt b i kids ns =
+    if (isKind b i 1)
+    (set (policiesBy (choiceAt b i)) (targetIn b kids) ns (obligationsIn b kids))
+    (policy (rulesBy (choiceAt b i)) (targetIn b kids) (rulesIn b kids) (obligationsIn b kids))
+
+unfoldable pub treesIn : List ℕ → Forest → Trees
+treesIn b none = noTree
+treesIn b (node i kids rest) =
+    if (either (isKind b i 1) (isKind b i 2)) (tree (treeAt b i kids (treesIn b kids)) (treesIn b rest)) (treesIn b rest)
+
+-- the tree of a book: line 1, with all other records below it
+unfoldable pub bookOf : List ℕ → Tree
+bookOf b = let kids = forest b 1 (length b / size - 1) in treeAt b 0 kids (treesIn b kids)
+
+-- the values of the key among `left` entries from k on: bytes 0-3 are the key, 8-15 the value
+unfoldable pub bagFrom : List ℕ → ℕ → ℕ → ℕ → List ℕ
+bagFrom q key zero k = []
+bagFrom q key (suc left) k = if (eqb (bigOf q (k * size) 4) key) (bigOf q (k * size + 8) 8 ∷ []) [] ++ bagFrom q key left (k + 1)
+
+unfoldable pub bagsOf : List ℕ → Bags
+bagsOf q key = bagFrom q key (length q / size) 0

@@ -1,0 +1,5 @@
+pub mod Entry
+pub mod Core
+pub mod Machine
+pub mod Layout
+pub mod Step

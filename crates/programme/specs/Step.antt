@@ -1,0 +1,84 @@
+-- A step, a run and a tick: what document 01 says of "The programme and its ticks". Assumes nothing.
+use Prim.Native.Nat.{ℕ, zero, suc, _+_, _-_}
+use mathlib.Core.Bool.{Bool, true, false}
+use mathlib.Core.List.{List}
+use lib.ListN.{length, getD, replicate}
+use Rattle.record.specs.Choose.{if}
+use Rattle.meaning.specs.Meaning.{Bags}
+use Rattle.meaning.specs.declared.Decision.{Decision}
+use Rattle.meaning.specs.declared.Decision.the-variants.{Permit, Deny, NotApplicable, Indeterminate}
+use Rattle.meaning.specs.declared.Truth.the-variants.{True, False}
+use Rattle.programme.specs.declared.Head.{Head}
+use Rattle.programme.specs.declared.State.{State}
+use Rattle.programme.specs.declared.Frame.{Frame}
+use Rattle.programme.specs.declared.Level.{Level}
+use Rattle.programme.specs.Entry.{Entry, extra, lawful}
+use Rattle.programme.specs.Core.{Changing, keep, push, swap, below, back, Out, core}
+use Rattle.programme.specs.Machine.{roomF, roomL, heightAfter, stackAfter, cutAfter, permitsAfter, deniesAfter, placesAfter}
+use Rattle.programme.specs.Layout.{levelOf, levelWord, frameOf, frameWord, unpackOf, packOf, fetch}
+
+-- the same change, of the numbers
+abbrev pub inWords : {A : Type 0} → (A → ℕ) → Changing A → Changing ℕ
+inWords f keep = keep
+inWords f (push x) = push (f x)
+inWords f (swap x) = swap (f x)
+inWords f (below x) = below (f x)
+inWords f (back x) = back (f x)
+
+-- the first number after a step
+unfoldable pub headAfter : Head → Entry → Out → Head
+headAfter h e x = record {
+  at = h .at + suc (extra e + x .next .jump);
+  depth = heightAfter roomF (x .frames) (h .depth);
+  nest = heightAfter roomL (x .levels) (h .nest);
+  permits = permitsAfter (x .placing) (h .cut) (h .permits);
+  denies = deniesAfter (x .placing) (h .cut) 1000 (h .denies);
+  cut = cutAfter (x .placing) (h .cut);
+  reg = x .next .reg;
+  ands = x .next .ands;
+  ors = x .next .ors;
+  sections = x .next .sections;
+  over = x .over;
+}
+
+-- what a step leaves
+unfoldable pub after : Head → Entry → Out → State → State
+after h e x s = record {
+  head = packOf (headAfter h e x);
+  frames = stackAfter roomF (inWords frameWord (x .frames)) (h .depth) (s .frames);
+  levels = stackAfter roomL (inWords levelWord (x .levels)) (h .nest) (s .levels);
+  places = placesAfter (x .placing) (h .cut) (h .permits) (h .denies) (s .places);
+}
+
+-- what a step sees
+unfoldable pub seen : List ℕ → Bags → State → Head → Entry → Out
+seen p g s h e =
+    core g (length p) h e
+    (levelOf (getD (s .levels) (h .nest) 0)) (levelOf (getD (s .levels) (h .nest - 1) 0))
+    (frameOf (getD (s .frames) (h .depth) 0)) (frameOf (getD (s .frames) (h .depth - 1) 0))
+
+-- may a step be taken: the entries that it meets are in their layout
+unfoldable pub mayStep : List ℕ → State → Bool
+mayStep p s = let h = unpackOf (s .head) in lawful (length p) (h .at) (fetch p (h .at))
+
+unfoldable pub stepOf : List ℕ → Bags → State → State
+stepOf p g s = let h = unpackOf (s .head) in let e = fetch p (h .at) in after h e (seen p g s h e) s
+
+-- the first number says whether the run is finished, with which decision and how many obligations
+unfoldable pub isOver : State → Bool
+isOver s = unpackOf (s .head) .over
+
+abbrev pub countBy : Decision → Head → ℕ
+countBy Permit h = h .permits
+countBy Deny h = h .denies
+countBy NotApplicable h = 0
+countBy Indeterminate h = 0
+
+-- before the first step
+unfoldable pub freshOf : State
+freshOf = record {
+  head = packOf (record { at = 0; depth = 0; nest = 0; permits = 0; denies = 0; cut = 0; reg = Permit; ands = True; ors = False; sections = True; over = false });
+  frames = replicate roomF (frameWord (frameOf 2));
+  levels = replicate roomL 0;
+  places = replicate 1000 0;
+}

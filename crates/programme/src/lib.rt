@@ -1,0 +1,89 @@
+// The programme: the layout of its entries and of the state, a step, a run and a tick.
+use algorithm::Acc;
+use meaning::Algorithm;
+use meaning::Decision;
+use meaning::Effect;
+use meaning::Test;
+use meaning::Truth;
+
+// What a condition that is open does with its parts.
+pub enum Op {
+    All,
+    Any,
+    Not,
+}
+
+// A condition that is open: what it does, and the value of its parts so far.
+pub struct Level {
+    pub op: Op,
+    pub val: Truth,
+}
+
+// A policy or set that is open: its algorithm, what that keeps, and how many obligations of each effect stood when it was opened.
+pub struct Frame {
+    pub alg: Algorithm,
+    pub acc: Acc,
+    pub permits: u64,
+    pub denies: u64,
+}
+
+// The first number, taken apart.
+pub struct Head {
+    pub at: u64,
+    pub depth: u64,
+    pub nest: u64,
+    pub permits: u64,
+    pub denies: u64,
+    pub cut: u64,
+    pub reg: Decision,
+    pub ands: Truth,
+    pub ors: Truth,
+    pub sections: Truth,
+    pub over: bool,
+}
+
+// How many entries a step leaves out, and the register and the three truths that it leaves.
+pub struct Next {
+    pub jump: u64,
+    pub reg: Decision,
+    pub ands: Truth,
+    pub ors: Truth,
+    pub sections: Truth,
+}
+
+// What becomes of a stack: nothing; one more on top; another on top; another below the top; the top goes and another is below it.
+pub enum Change {
+    Keep,
+    Push(u64),
+    Swap(u64),
+    Under(u64),
+    Back(u64),
+}
+
+// What becomes of the obligations: one is put on a stack, stacks fall back, the cut is set, or some of Deny's are brought down.
+pub enum Placing {
+    Rest,
+    AddPermit(u64),
+    AddDeny(u64),
+    FallPermit(u64),
+    FallDeny(u64),
+    FallBoth(u64, u64),
+    Cut(u64),
+    Down(u64),
+}
+
+// What a step does.
+pub struct Move {
+    pub next: Next,
+    pub over: bool,
+    pub levels: Change,
+    pub frames: Change,
+    pub placing: Placing,
+}
+
+pub struct State {
+    pub head: u64,
+    pub frames: [u64; 17],
+    pub levels: [u64; 15],
+    pub places: [u16; 1000],
+}

@@ -1,0 +1,295 @@
+// Targets, conditions and rules, decided on the records themselves. `s` is a record's span; `count` records from `from` on are a record's children.
+use meaning::Algorithm;
+use meaning::Decision;
+use meaning::Effect;
+use meaning::Test;
+use meaning::Truth;
+ghost use mathlib.Core.Path.{_≡_};
+ghost use Prim.Native.Nat.{_+_, _*_, _-_, _<_, _≤_};
+ghost use lib.ListN.{length};
+ghost use Rattle.record.specs.Forest.{forest};
+ghost use Rattle.meaning.specs.Logic.{andAll, orAll};
+ghost use Rattle.meaning.specs.Meaning.{conjunctionOf, sectionOf, targetOf, conditionOf, conditionsOf, under, decisionOf, whenOf, overRules, combine, ruleChildren};
+ghost use Rattle.meaning.specs.Reading.{keyAt, testAt, matchAt, comparisonAt, conjunctionAt, sectionAt, targetIn, conditionAt, conditionsIn, whenIn, effectOf, rulesIn, rulesBy, bagsOf};
+
+fn wide(x: usize) -> u32
+    requires { ⌜ x < 256 ⌝ }
+    ensures { λ r. ⌜ (r ≡ x) × (r < 256) ⌝ }
+{
+    x as u32
+}
+
+// Record i as a test by function f.
+fn test_at(book: &[u8], i: usize, f: usize) -> Test
+    requires { ⌜ (i + 1) * 16 ≤ length (now book) ⌝ }
+    ensures { λ r. ⌜ r ≡ testAt (now (book .entry)) i f ⌝ }
+{
+    let category = wide(record::byte(book, i, 4));
+    let kind = wide(record::byte(book, i, 5));
+    let high = wide(record::byte(book, i, 6));
+    let low = wide(record::byte(book, i, 7));
+    Test {
+        function: value::function_of(f),
+        must: 127 < kind,
+        key: category * 16777216 + kind % 128 * 65536 + high * 256 + low,
+        literal: record::big8(book, i * record::SIZE + 8),
+    }
+}
+
+// The match at record i.
+pub fn match_at(book: &[u8], i: usize) -> Test
+    requires { ⌜ (i + 1) * 16 ≤ length (now book) ⌝ }
+    ensures { λ r. ⌜ r ≡ matchAt (now (book .entry)) i ⌝ }
+{
+    let choice = record::byte(book, i, 1);
+    test_at(book, i, choice)
+}
+
+// The comparison at record i: choice 11 is function 1.
+pub fn comparison_at(book: &[u8], i: usize) -> Test
+    requires { ⌜ (i + 1) * 16 ≤ length (now book) ⌝ }
+    ensures { λ r. ⌜ r ≡ comparisonAt (now (book .entry)) i ⌝ }
+{
+    let choice = record::byte(book, i, 1);
+    if choice < 10 {
+        return test_at(book, i, 0);
+    }
+    test_at(book, i, choice - 10)
+}
+
+// And over the matches of the conjunction at record i. Without one it stands for its own match.
+fn conjunction(book: &[u8], request: &[u8], i: usize, s: usize) -> Truth
+    requires { ⌜ (0 < s) × ((i + s) * 16 ≤ length (now book)) ⌝ }
+    ensures { λ r. ⌜ r ≡ conjunctionOf (bagsOf (now (request .entry))) (conjunctionAt (now (book .entry)) i (forest (now (book .entry)) (i + 1) (s - 1))) ⌝ }
+{
+    if s == 1 {
+        return request::matches(request, match_at(book, i));
+    }
+    let mut at = i + 1;
+    let mut left = s - 1;
+    let mut acc = Truth::True;
+    while 0 < left {
+        let n = record::span_in(book, at, left);
+        let t = request::matches(request, match_at(book, at));
+        if let Truth::False = t {
+            return Truth::False;
+        }
+        acc = meaning::and3(acc, t);
+        at += n;
+        left -= n;
+    }
+    acc
+}
+
+// Or over the conjunctions of the section at record i. Without one it stands for its own conjunction.
+fn section(book: &[u8], request: &[u8], i: usize, s: usize) -> Truth
+    requires { ⌜ (0 < s) × ((i + s) * 16 ≤ length (now book)) ⌝ }
+    ensures { λ r. ⌜ r ≡ sectionOf (bagsOf (now (request .entry))) (sectionAt (now (book .entry)) i (forest (now (book .entry)) (i + 1) (s - 1))) ⌝ }
+{
+    if s == 1 {
+        return conjunction(book, request, i, 1);
+    }
+    let mut at = i + 1;
+    let mut left = s - 1;
+    let mut acc = Truth::False;
+    while 0 < left {
+        let n = record::span_in(book, at, left);
+        let t = conjunction(book, request, at, n);
+        if let Truth::True = t {
+            return Truth::True;
+        }
+        acc = meaning::or3(acc, t);
+        at += n;
+        left -= n;
+    }
+    acc
+}
+
+// The target that children begin with.
+pub fn target(book: &[u8], request: &[u8], from: usize, count: usize) -> Truth
+    requires { ⌜ (from + count) * 16 ≤ length (now book) ⌝ }
+    ensures { λ r. ⌜ r ≡ targetOf (bagsOf (now (request .entry))) (targetIn (now (book .entry)) (forest (now (book .entry)) from count)) ⌝ }
+{
+    let mut i = from;
+    let mut left = count;
+    let mut acc = Truth::True;
+    while 0 < left {
+        let kind = record::byte(book, i, 0);
+        if kind != 4 {
+            return acc;
+        }
+        let s = record::span_in(book, i, left);
+        let t = section(book, request, i, s);
+        if let Truth::Unknown = t {
+            return Truth::Unknown;
+        }
+        acc = meaning::target3(acc, t);
+        i += s;
+        left -= s;
+    }
+    acc
+}
+
+// The condition at record i: it calls itself on its parts, and the span falls at each call.
+pub fn condition(book: &[u8], request: &[u8], i: usize, s: usize) -> Truth
+    requires { ⌜ (0 < s) × ((i + s) * 16 ≤ length (now book)) ⌝ }
+    ensures { λ r. ⌜ r ≡ conditionOf (bagsOf (now (request .entry))) (conditionAt (now (book .entry)) i (conditionsIn (now (book .entry)) (forest (now (book .entry)) (i + 1) (s - 1)))) ⌝ }
+{
+    let choice = record::byte(book, i, 1);
+    match choice {
+        1 => all(book, request, i + 1, s - 1),
+        2 => any(book, request, i + 1, s - 1),
+        3 => {
+            if s == 1 {
+                return request::comparison(request, comparison_at(book, i));
+            }
+            let part = record::span_in(book, i + 1, s - 1);
+            meaning::not3(condition(book, request, i + 1, part))
+        }
+        _ => request::comparison(request, comparison_at(book, i)),
+    }
+}
+
+// And over conditions.
+fn all(book: &[u8], request: &[u8], from: usize, count: usize) -> Truth
+    requires { ⌜ (from + count) * 16 ≤ length (now book) ⌝ }
+    ensures { λ r. ⌜ r ≡ andAll (conditionsOf (bagsOf (now (request .entry))) (conditionsIn (now (book .entry)) (forest (now (book .entry)) from count))) ⌝ }
+{
+    let mut i = from;
+    let mut left = count;
+    let mut acc = Truth::True;
+    while 0 < left {
+        let s = record::span_in(book, i, left);
+        let t = condition(book, request, i, s);
+        if let Truth::False = t {
+            return Truth::False;
+        }
+        acc = meaning::and3(acc, t);
+        i += s;
+        left -= s;
+    }
+    acc
+}
+
+// Or over conditions.
+fn any(book: &[u8], request: &[u8], from: usize, count: usize) -> Truth
+    requires { ⌜ (from + count) * 16 ≤ length (now book) ⌝ }
+    ensures { λ r. ⌜ r ≡ orAll (conditionsOf (bagsOf (now (request .entry))) (conditionsIn (now (book .entry)) (forest (now (book .entry)) from count))) ⌝ }
+{
+    let mut i = from;
+    let mut left = count;
+    let mut acc = Truth::False;
+    while 0 < left {
+        let s = record::span_in(book, i, left);
+        let t = condition(book, request, i, s);
+        if let Truth::True = t {
+            return Truth::True;
+        }
+        acc = meaning::or3(acc, t);
+        i += s;
+        left -= s;
+    }
+    acc
+}
+
+// The condition among a rule's children; no condition is True.
+fn when(book: &[u8], request: &[u8], from: usize, count: usize) -> Truth
+    requires { ⌜ (from + count) * 16 ≤ length (now book) ⌝ }
+    ensures { λ r. ⌜ r ≡ whenOf (bagsOf (now (request .entry))) (whenIn (now (book .entry)) (forest (now (book .entry)) from count)) ⌝ }
+{
+    let mut i = from;
+    let mut left = count;
+    while 0 < left {
+        let s = record::span_in(book, i, left);
+        let kind = record::byte(book, i, 0);
+        if kind == 7 {
+            return condition(book, request, i, s);
+        }
+        i += s;
+        left -= s;
+    }
+    Truth::True
+}
+
+fn effect_of(choice: usize) -> Effect
+    ensures { λ r. ⌜ r ≡ effectOf choice ⌝ }
+{
+    if choice == 1 {
+        return Effect::Permits;
+    }
+    Effect::Denies
+}
+
+fn decision_of(e: Effect) -> Decision
+    ensures { λ r. ⌜ r ≡ decisionOf e ⌝ }
+{
+    match e {
+        Effect::Permits => Decision::Permit,
+        Effect::Denies => Decision::Deny,
+    }
+}
+
+fn judged(t: Truth, d: Decision) -> Decision
+    ensures { λ r. ⌜ r ≡ under t d ⌝ }
+{
+    match t {
+        Truth::True => d,
+        Truth::False => Decision::NotApplicable,
+        Truth::Unknown => Decision::Indeterminate,
+    }
+}
+
+// The rule of the effect e with these children.
+fn rule(book: &[u8], request: &[u8], from: usize, count: usize, e: Effect) -> Decision
+    requires { ⌜ (from + count) * 16 ≤ length (now book) ⌝ }
+    ensures { λ r. ⌜ r ≡ under (targetOf (bagsOf (now (request .entry))) (targetIn (now (book .entry)) (forest (now (book .entry)) from count))) (under (whenOf (bagsOf (now (request .entry))) (whenIn (now (book .entry)) (forest (now (book .entry)) from count))) (decisionOf e)) ⌝ }
+{
+    let t = target(book, request, from, count);
+    match t {
+        Truth::False => Decision::NotApplicable,
+        Truth::Unknown => Decision::Indeterminate,
+        Truth::True => judged(when(book, request, from, count), decision_of(e)),
+    }
+}
+
+// The algorithm over rules that a policy chooses.
+fn over_rules(choice: usize) -> Algorithm
+    ensures { λ r. ⌜ r ≡ overRules (rulesBy choice) ⌝ }
+{
+    if choice == 1 {
+        return Algorithm::RulesDeny;
+    }
+    if choice == 2 {
+        return Algorithm::RulesPermit;
+    }
+    Algorithm::First
+}
+
+// What the rules among these children decide.
+pub fn rules(book: &[u8], request: &[u8], from: usize, count: usize, choice: usize) -> Decision
+    requires { ⌜ (from + count) * 16 ≤ length (now book) ⌝ }
+    ensures { λ r. ⌜ r ≡ combine (overRules (rulesBy choice)) (ruleChildren (bagsOf (now (request .entry))) (rulesIn (now (book .entry)) (forest (now (book .entry)) from count))) ⌝ }
+{
+    let a = over_rules(choice);
+    let mut i = from;
+    let mut left = count;
+    let mut acc = algorithm::begin(a);
+    while 0 < left {
+        let s = record::span_in(book, i, left);
+        let kind = record::byte(book, i, 0);
+        if kind != 3 {
+            i += s;
+            left -= s;
+            continue;
+        }
+        let e = effect_of(record::byte(book, i, 1));
+        let d = rule(book, request, i + 1, s - 1, e);
+        acc = algorithm::take_in(a, acc, e, d);
+        if algorithm::settles(a, acc) {
+            return algorithm::outcome(a, acc);
+        }
+        i += s;
+        left -= s;
+    }
+    algorithm::outcome(a, acc)
+}

@@ -1,0 +1,9 @@
+pub mod Laws
+pub mod Lined
+pub mod Answers
+pub mod Letters
+pub mod Accepted
+pub mod RoundTrip
+pub mod Bounds
+pub mod Unique
+pub mod Examples

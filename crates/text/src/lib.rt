@@ -1,0 +1,265 @@
+// The text of a book or a request, read and written: a record is a line of 32 hexadecimal digits and LF.
+use record::Refusal;
+ghost use mathlib.Core.Path.{_≡_};
+ghost use mathlib.Core.List.{_++_};
+ghost use Prim.Native.Nat.{_<_, _≤_, _+_, _*_, _/_};
+ghost use lib.ListN.{length, drop};
+ghost use Rattle.text.specs.Hex.{digitOf, isDigit, valueOf, letterOf};
+ghost use Rattle.text.specs.Table.{allBelow, tab};
+ghost use Rattle.text.specs.Text.{book, request, missing, digitAt, goodLine, judgeFrom, byteAt, textAt, readOf, writeOf, outputAfter};
+
+// The digits of a line, and its bytes: the digits and LF.
+const DIGITS: usize = 32;
+
+const LINE: usize = 33;
+
+const LF: u8 = 10;
+
+// What reading and writing answer: so many places of the output are filled, or nothing is.
+pub enum Filled {
+    Places(usize),
+    Refused(Refusal),
+}
+
+// What a book and a request differ in: how many records there may be at most, whether there may be none, and the part that a refusal names.
+pub struct Kind {
+    pub most: usize,
+    pub empty: bool,
+    pub part: u8,
+}
+
+const BOOK: Kind = Kind {
+    most: 1000,
+    empty: false,
+    part: 1,
+};
+
+const REQUEST: Kind = Kind {
+    most: 64,
+    empty: true,
+    part: 2,
+};
+
+// Whether there is nothing where something must be.
+fn missing(kind: Kind, n: usize) -> bool
+    ensures { λ r. ⌜ r ≡ missing kind n ⌝ }
+{
+    if kind.empty {
+        return false;
+    }
+    n == 0
+}
+
+pub enum Nibble {
+    Value(u8),
+    Bad,
+}
+
+// The value of a hexadecimal digit of either case.
+fn digit(c: u8) -> Nibble
+    ensures { λ r. ⌜ r ≡ digitOf c ⌝ }
+{
+    match c {
+        b'0'..=b'9' => Nibble::Value(c - 48),
+        b'A'..=b'F' => Nibble::Value(c - 55),
+        b'a'..=b'f' => Nibble::Value(c - 87),
+        _ => Nibble::Bad,
+    }
+}
+
+fn is_digit(c: u8) -> bool
+    ensures { λ r. ⌜ r ≡ isDigit c ⌝ }
+{
+    match digit(c) {
+        Nibble::Value(_) => true,
+        Nibble::Bad => false,
+    }
+}
+
+fn value(c: u8) -> u8
+    ensures { λ r. ⌜ (r ≡ valueOf c) × (r < 16) ⌝ }
+{
+    match digit(c) {
+        Nibble::Value(v) => v,
+        Nibble::Bad => 0,
+    }
+}
+
+// The last hexadecimal digit of a number, as a capital.
+pub fn letter(n: usize) -> u8
+    ensures { λ r. ⌜ r ≡ letterOf n ⌝ }
+{
+    let d = (n % 16) as u8;
+    if d < 10 {
+        return d + 48;
+    }
+    d + 55
+}
+
+fn all_digits(text: &[u8], at: usize) -> bool
+    requires { ⌜ at + 32 ≤ length (now text) ⌝ }
+    ensures { λ r. ⌜ r ≡ allBelow (digitAt (now (text .entry)) at) 32 ⌝ }
+{
+    let mut j = 0;
+    while j < DIGITS {
+        if !is_digit(text[at + j]) {
+            return false;
+        }
+        j += 1;
+    }
+    true
+}
+
+// Whether 32 digits and LF stand at this place.
+fn good_line(text: &[u8], at: usize) -> bool
+    requires { ⌜ at ≤ length (now text) ⌝ }
+    ensures { λ r. ⌜ r ≡ goodLine (now (text .entry)) at ⌝ }
+{
+    if text.len() - at < LINE {
+        return false;
+    }
+    if text[at + DIGITS] != LF {
+        return false;
+    }
+    all_digits(text, at)
+}
+
+// How the lines of a text stand: all are good, or this is the first that is not, or there are too many.
+pub enum Judged {
+    Lines(usize),
+    Wrong(usize),
+    Over,
+}
+
+fn judge(text: &[u8], most: usize) -> Judged
+    ensures { λ r. ⌜ r ≡ judgeFrom (now (text .entry)) most 0 ⌝ }
+{
+    let mut n = 0;
+    while n < most {
+        if text.len() <= LINE * n {
+            return Judged::Lines(n);
+        }
+        if !good_line(text, LINE * n) {
+            let line = n + 1;
+            return Judged::Wrong(line);
+        }
+        n += 1;
+    }
+    if text.len() <= LINE * n {
+        return Judged::Lines(n);
+    }
+    Judged::Over
+}
+
+// Byte i of the records that the text says.
+fn byte_at(text: &[u8], i: usize) -> u8
+    requires { ⌜ 33 * (i / 16) + 33 ≤ length (now text) ⌝ }
+    ensures { λ r. ⌜ r ≡ byteAt (now (text .entry)) i ⌝ }
+{
+    let p = LINE * (i / 16) + 2 * (i % 16);
+    16 * value(text[p]) + value(text[p + 1])
+}
+
+fn decode(text: &[u8], n: usize, out: &mut [u8])
+    requires { ⌜ (33 * n ≤ length (now text)) × (16 * n ≤ length (now out)) ⌝ }
+    ensures { λ _. ⌜ now (out .exit) ≡ tab (byteAt (now (text .entry))) (16 * n) ++ drop (16 * n) (now (out .entry)) ⌝ }
+{
+    let total = record::SIZE * n;
+    let mut i = 0;
+    while i < total {
+        out[i] = byte_at(text, i);
+        i += 1;
+    }
+}
+
+fn read_text(text: &[u8], kind: Kind, out: &mut [u8]) -> Filled
+    ensures { λ r. ⌜ (r ≡ readOf kind (now (text .entry)) (length (now (out .entry)))) × (now (out .exit) ≡ outputAfter (byteAt (now (text .entry))) r (now (out .entry))) ⌝ }
+{
+    match judge(text, kind.most) {
+        Judged::Lines(n) => {
+            if missing(kind, n) {
+                return Filled::Refused(record::no_record(kind.part));
+            }
+            let size = record::SIZE * n;
+            if out.len() < size {
+                return Filled::Refused(record::no_room());
+            }
+            decode(text, n, out);
+            Filled::Places(size)
+        }
+        Judged::Wrong(line) => Filled::Refused(record::bad_line(kind.part, line)),
+        Judged::Over => Filled::Refused(record::too_many(kind.part)),
+    }
+}
+
+// Byte j of the text that the records make.
+fn text_at(records: &[u8], j: usize) -> u8
+    requires { ⌜ 16 * (j / 33) + 16 ≤ length (now records) ⌝ }
+    ensures { λ r. ⌜ r ≡ textAt (now (records .entry)) j ⌝ }
+{
+    let k = j % LINE;
+    if k == DIGITS {
+        return LF;
+    }
+    let b = records[record::SIZE * (j / LINE) + k / 2] as usize;
+    if k % 2 == 0 {
+        return letter(b / 16);
+    }
+    letter(b)
+}
+
+fn encode(records: &[u8], n: usize, out: &mut [u8])
+    requires { ⌜ (16 * n ≤ length (now records)) × (33 * n ≤ length (now out)) ⌝ }
+    ensures { λ _. ⌜ now (out .exit) ≡ tab (textAt (now (records .entry))) (33 * n) ++ drop (33 * n) (now (out .entry)) ⌝ }
+{
+    let total = LINE * n;
+    let mut j = 0;
+    while j < total {
+        out[j] = text_at(records, j);
+        j += 1;
+    }
+}
+
+fn write_text(records: &[u8], kind: Kind, out: &mut [u8]) -> Filled
+    ensures { λ r. ⌜ (r ≡ writeOf kind (now (records .entry)) (length (now (out .entry)))) × (now (out .exit) ≡ outputAfter (textAt (now (records .entry))) r (now (out .entry))) ⌝ }
+{
+    if missing(kind, records.len()) {
+        return Filled::Refused(record::no_record(kind.part));
+    }
+    if 0 < records.len() % record::SIZE {
+        return Filled::Refused(record::cut_short(kind.part));
+    }
+    let n = records.len() / record::SIZE;
+    if kind.most < n {
+        return Filled::Refused(record::too_many(kind.part));
+    }
+    if out.len() / LINE < n {
+        return Filled::Refused(record::no_room());
+    }
+    encode(records, n, out);
+    Filled::Places(LINE * n)
+}
+
+pub fn read_book(text: &[u8], out: &mut [u8]) -> Filled
+    ensures { λ r. ⌜ (r ≡ readOf book (now (text .entry)) (length (now (out .entry)))) × (now (out .exit) ≡ outputAfter (byteAt (now (text .entry))) r (now (out .entry))) ⌝ }
+{
+    read_text(text, BOOK, out)
+}
+
+pub fn read_request(text: &[u8], out: &mut [u8]) -> Filled
+    ensures { λ r. ⌜ (r ≡ readOf request (now (text .entry)) (length (now (out .entry)))) × (now (out .exit) ≡ outputAfter (byteAt (now (text .entry))) r (now (out .entry))) ⌝ }
+{
+    read_text(text, REQUEST, out)
+}
+
+pub fn write_book(records: &[u8], out: &mut [u8]) -> Filled
+    ensures { λ r. ⌜ (r ≡ writeOf book (now (records .entry)) (length (now (out .entry)))) × (now (out .exit) ≡ outputAfter (textAt (now (records .entry))) r (now (out .entry))) ⌝ }
+{
+    write_text(records, BOOK, out)
+}
+
+pub fn write_request(records: &[u8], out: &mut [u8]) -> Filled
+    ensures { λ r. ⌜ (r ≡ writeOf request (now (records .entry)) (length (now (out .entry)))) × (now (out .exit) ≡ outputAfter (textAt (now (records .entry))) r (now (out .entry))) ⌝ }
+{
+    write_text(records, REQUEST, out)
+}

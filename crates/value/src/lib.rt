@@ -1,0 +1,133 @@
+// Attribute values, and the functions 1 to 5 that compare them.
+ghost use mathlib.Core.Path.{_≡_};
+ghost use lib.Dec.{T};
+ghost use Rattle.value.specs.Value.{signed64, finiteOf, valueOf, noNan, greaterOf, equalOf, atLeastOf, functionOf, holdsOf};
+
+pub enum Value {
+    Integer(i64),
+    Name(u64),
+    Double(f64),
+}
+
+pub enum Function {
+    Equal,
+    Greater,
+    GreaterOrEqual,
+    Less,
+    LessOrEqual,
+}
+
+// The function of this number.
+pub fn function_of(n: usize) -> Function
+    ensures { λ r. ⌜ r ≡ functionOf n ⌝ }
+{
+    match n {
+        1 => Function::Equal,
+        2 => Function::Greater,
+        3 => Function::GreaterOrEqual,
+        4 => Function::Less,
+        _ => Function::LessOrEqual,
+    }
+}
+
+// Whether eight bytes, as a number, are those of a finite double: the 11 bits after the sign are not all ones.
+pub fn finite(n: u64) -> bool
+    ensures { λ r. ⌜ r ≡ finiteOf n ⌝ }
+{
+    n / 4503599627370496 % 2048 != 2047
+}
+
+// Eight bytes as a signed number. Where the top bit is set, n - 2^64 is (n - 2^63) - 2^63.
+fn signed(n: u64) -> i64
+    ensures { λ r. ⌜ r ≡ signed64 n ⌝ }
+{
+    if n < 9223372036854775808 {
+        return n as i64;
+    }
+    (n - 9223372036854775808) as i64 + i64::MIN
+}
+
+// The value that eight bytes of the type kind stand for.
+fn value_of(kind: usize, n: u64) -> Value
+    ensures { λ r. ⌜ (r ≡ valueOf kind n) × T (noNan r) ⌝ }
+{
+    if kind == 1 {
+        return Value::Integer(signed(n));
+    }
+    if kind == 2 {
+        return Value::Name(n);
+    }
+    if finite(n) {
+        return Value::Double(f64::from_bits(n));
+    }
+    Value::Name(n)
+}
+
+// The first is greater than the second.
+fn greater(a: Value, b: Value) -> bool
+    ensures { λ r. ⌜ r ≡ greaterOf a b ⌝ }
+{
+    match a {
+        Value::Integer(x) => match b {
+            Value::Integer(y) => x > y,
+            Value::Name(_) => false,
+            Value::Double(_) => false,
+        },
+        Value::Name(_) => false,
+        Value::Double(x) => match b {
+            Value::Integer(_) => false,
+            Value::Name(_) => false,
+            Value::Double(y) => x > y,
+        },
+    }
+}
+
+// The two are equal: doubles by their eight bytes.
+fn equal(a: Value, b: Value) -> bool
+    requires { ⌜ T (noNan a) × T (noNan b) ⌝ }
+    ensures { λ r. ⌜ r ≡ equalOf a b ⌝ }
+{
+    match a {
+        Value::Integer(x) => match b {
+            Value::Integer(y) => x == y,
+            Value::Name(_) => false,
+            Value::Double(_) => false,
+        },
+        Value::Name(x) => match b {
+            Value::Integer(_) => false,
+            Value::Name(y) => x == y,
+            Value::Double(_) => false,
+        },
+        Value::Double(x) => match b {
+            Value::Integer(_) => false,
+            Value::Name(_) => false,
+            Value::Double(y) => f64::to_bits(x) == f64::to_bits(y),
+        },
+    }
+}
+
+// The first is greater than the second, or equal to it.
+fn at_least(a: Value, b: Value) -> bool
+    requires { ⌜ T (noNan a) × T (noNan b) ⌝ }
+    ensures { λ r. ⌜ r ≡ atLeastOf a b ⌝ }
+{
+    if greater(a, b) {
+        return true;
+    }
+    equal(a, b)
+}
+
+// Function f of the literal and the request's value, both of the type kind.
+pub fn holds(f: Function, kind: usize, literal: u64, given: u64) -> bool
+    ensures { λ r. ⌜ r ≡ holdsOf f kind literal given ⌝ }
+{
+    let a = value_of(kind, literal);
+    let b = value_of(kind, given);
+    match f {
+        Function::Equal => equal(a, b),
+        Function::Greater => greater(a, b),
+        Function::GreaterOrEqual => at_least(a, b),
+        Function::Less => greater(b, a),
+        Function::LessOrEqual => at_least(b, a),
+    }
+}
