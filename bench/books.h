@@ -7,13 +7,15 @@
 
 enum { RECORD = 16, MOST_BOOK = 1000 * RECORD, MOST_REQUEST = 64 * RECORD, MOST_OUT = 2 * 1000 };
 
-/* Reads lines of 32 hexadecimal digits; returns how many bytes they give. Ends the program if there is more than most or a wrong line. */
+/* Reads lines of 32 hexadecimal digits and returns how many bytes they give. Ends the program at a wrong line, or if
+ * they give more than most. */
 size_t bytes_of_text(const char *text, uint8_t *bytes, size_t most);
 size_t bytes_of_file(const char *path, uint8_t *bytes, size_t most);
 
-/* A permit-overrides set over policies of 9 records, each with a target, two rules with conditions and an obligation. records is 1 more
- * than a multiple of 9, as 10, 100 and 1,000 are. A quarter of the policies apply to growth_request, and each of them is
- * Indeterminate for its one entry, Deny for 8 or 64 entries; so the whole set is walked. Both return the length in bytes. */
+/* A permit-overrides set over policies of 9 records, each with a target, two rules with conditions and an obligation.
+ * records is 1 more than a multiple of 9, as 10, 100 and 1,000 are. A quarter of the policies apply to growth_request;
+ * each of these is Indeterminate for a request of one entry, Deny for 8 or more. So the whole set is walked.
+ * Both return the length in bytes. */
 size_t growth_book(uint8_t *book, size_t records);
 size_t growth_request(uint8_t *request, size_t entries);
 

@@ -5,19 +5,18 @@
 #include "plain.h"
 
 #include <bachumoi.h>
-#include <stdbool.h>
 #include <stdio.h>
 #include <stdlib.h>
 #include <string.h>
 
 #ifdef HAVE_HOST
-static uint64_t proved(const struct input *in)
+static uint64_t host(const struct input *in)
 {
     return bachumoi_decide(in->book, in->book_len, in->request, in->request_len, in->out, in->out_len);
 }
-#define PROVED proved
+static side *const proved = host;
 #else
-#define PROVED NULL
+static side *const proved = NULL;
 #endif
 
 static uint64_t plain(const struct input *in)
@@ -25,7 +24,7 @@ static uint64_t plain(const struct input *in)
     return plain_decide(in->book, in->book_len, in->request, in->request_len, in->out, in->out_len);
 }
 
-/* Both sides give the same number and leave the same bytes; it is a decision, and the expected one where one is named. */
+/* Ends the program unless a side gives the number of plain C, a decision, and leaves the same bytes. */
 static void agree(const struct input *in, side *of)
 {
     uint8_t theirs[MOST_OUT];
@@ -36,15 +35,15 @@ static void agree(const struct input *in, side *of)
         of = plain;
     memset(in->out, 0xEE, in->out_len);
     if (of(in) != number || memcmp(theirs, in->out, in->out_len) != 0 || bachumoi_refused(number)) {
-        fprintf(stderr, "decide: book %s, %zu entries: no decision, or not the same one\n", in->name, in->request_len / RECORD);
+        fprintf(stderr, "decide: %s, %zu entries: no decision, or another\n", in->name, in->request_len / RECORD);
         exit(1);
     }
 }
 
 static void one(const struct input *in)
 {
-    agree(in, PROVED);
-    measure("decide", in, plain, PROVED);
+    agree(in, proved);
+    measure("decide", in, plain, proved);
 }
 
 /* The output that a book needs: two bytes for each obligation record. */
@@ -86,22 +85,24 @@ static void growth(struct input in, uint8_t *book, uint8_t *request)
         }
 }
 
-/* The deepest stack of a side over every book of depth 16 that deep_book makes. */
+/* The deepest stack of a side over every book of depth 16 that deep_book makes; in is left with the book that takes it. */
 static size_t deepest(struct input *in, uint8_t *book, side *of)
 {
-    size_t most = 0;
+    static const unsigned first[] = { [SETS] = 16, [CONDITIONS] = 0, [POLICY_TARGET] = 12, [RULE_TARGET] = 11 };
+    static const unsigned last[] = { [SETS] = 16, [CONDITIONS] = 13, [POLICY_TARGET] = 12, [RULE_TARGET] = 11 };
+    size_t most = 0, most_len = 0;
     for (unsigned algorithm = 1; algorithm <= 4; algorithm++)
-        for (enum filling filling = SETS; filling < FILLINGS; filling++) {
-            unsigned first = filling == CONDITIONS ? 0 : filling == SETS ? 16 : filling == POLICY_TARGET ? 12 : 11;
-            unsigned last = filling == CONDITIONS ? 13 : first;
-            for (unsigned sets = first; sets <= last; sets++) {
+        for (enum filling filling = SETS; filling < FILLINGS; filling++)
+            for (unsigned sets = first[filling]; sets <= last[filling]; sets++) {
                 in->book_len = deep_book(book, algorithm, sets, filling);
                 agree(in, of);
                 size_t stack = stack_of(of, in);
-                if (stack > most)
+                if (stack > most) {
                     most = stack;
+                    most_len = in->book_len;
+                }
             }
-        }
+    in->book_len = most_len;
     return most;
 }
 
@@ -110,8 +111,11 @@ static void stack(struct input in, uint8_t *book, uint8_t *request)
     in.name = "16 levels";
     in.request_len = bytes_of_file("examples/a/40.hex", request, MOST_REQUEST);
     double of_plain = (double)deepest(&in, book, plain);
-    double of_proved = PROVED ? (double)deepest(&in, book, PROVED) : -1;
-    row("stack", &in, "bytes", of_plain, of_proved);
+    if (proved) {
+        double of_proved = (double)deepest(&in, book, proved);
+        row("stack", &in, "bytes", of_plain, of_proved, of_proved / of_plain);
+    } else
+        row_of_plain("stack", &in, "bytes", of_plain);
 }
 
 int main(void)

@@ -9,13 +9,13 @@
 #ifdef HAVE_PROBE
 uint64_t probe_judge_book(const uint8_t *book, size_t book_len);
 
-static uint64_t proved(const struct input *in)
+static uint64_t probe(const struct input *in)
 {
     return probe_judge_book(in->book, in->book_len);
 }
-#define PROVED proved
+static side *const proved = probe;
 #else
-#define PROVED NULL
+static side *const proved = NULL;
 #endif
 
 static uint64_t plain(const struct input *in)
@@ -40,11 +40,10 @@ static void judges(side *of, const struct input *in, uint8_t *book)
 static void one(const char *name, uint8_t *book, size_t book_len)
 {
     struct input in = { .name = name, .book = book, .book_len = book_len };
-    side *sides[] = { plain, PROVED };
-    for (int i = 0; i < 2; i++)
-        if (sides[i])
-            judges(sides[i], &in, book);
-    measure("judge", &in, plain, PROVED);
+    judges(plain, &in, book);
+    if (proved)
+        judges(proved, &in, book);
+    measure("judge", &in, plain, proved);
 }
 
 int main(void)

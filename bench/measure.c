@@ -2,6 +2,7 @@
 #include "measure.h"
 
 #include <stdio.h>
+#include <stdlib.h>
 #include <string.h>
 #include <time.h>
 #include <ucontext.h>
@@ -29,34 +30,56 @@ static double batch(side *of, const struct input *input, unsigned calls)
     return end - start;
 }
 
-static void better(double *best, side *of, const struct input *input, unsigned calls)
+static int ascending(const void *a, const void *b)
 {
-    double time = batch(of, input, calls) / calls;
-    if (time < *best)
-        *best = time;
+    double x = *(const double *)a, y = *(const double *)b;
+    return (x > y) - (x < y);
+}
+
+static double median(double *of, size_t count)
+{
+    qsort(of, count, sizeof *of, ascending);
+    return of[count / 2];
 }
 
 void measure(const char *what, const struct input *input, side *plain, side *proved)
 {
+    static double plains[REPEATS], proveds[REPEATS], ratios[REPEATS];
     unsigned calls = 1;
     while (batch(plain, input, calls) < BATCH_NANOSECONDS)
         calls *= 2;
-    double best_plain = 1e18, best_proved = 1e18;
     for (unsigned i = 0; i < REPEATS; i++) {
-        better(&best_plain, plain, input, calls);
-        if (proved)
-            better(&best_proved, proved, input, calls);
+        if (proved && i % 2 == 0)
+            proveds[i] = batch(proved, input, calls) / calls;
+        plains[i] = batch(plain, input, calls) / calls;
+        if (proved && i % 2 == 1)
+            proveds[i] = batch(proved, input, calls) / calls;
+        ratios[i] = proveds[i] / plains[i];
     }
-    row(what, input, "ns", best_plain, proved ? best_proved : -1);
+    double plain_time = median(plains, REPEATS);
+    if (proved)
+        row(what, input, "ns", plain_time, median(proveds, REPEATS), median(ratios, REPEATS));
+    else
+        row_of_plain(what, input, "ns", plain_time);
 }
 
-void row(const char *what, const struct input *input, const char *unit, double plain, double proved)
+static void head(const char *what, const struct input *input, const char *unit, double plain)
 {
-    printf("%s\t%s\t%zu\t%zu\t%s\t%.0f\t", what, input->name, input->book_len / 16, input->request_len / 16, unit, plain);
-    if (proved < 0)
-        printf("-\t-\n");
-    else
-        printf("%.0f\t%.2f\n", proved, proved / plain);
+    printf("%s\t%s\t%zu\t%zu\t", what, input->name, input->book_len / 16, input->request_len / 16);
+    printf("%s\t%.0f\t", unit, plain);
+}
+
+void row(const char *what, const struct input *input, const char *unit, double plain, double proved, double ratio)
+{
+    head(what, input, unit, plain);
+    printf("%.0f\t%.2f\n", proved, ratio);
+    fflush(stdout);
+}
+
+void row_of_plain(const char *what, const struct input *input, const char *unit, double plain)
+{
+    head(what, input, unit, plain);
+    printf("-\t-\n");
     fflush(stdout);
 }
 

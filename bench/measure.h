@@ -18,15 +18,16 @@ struct input {
 
 typedef uint64_t side(const struct input *input);
 
-/* Times both sides on the same input, in turn, many times, and prints the row: what, book, records, entries, the best time of a call of plain
- * C and of Bachumoi in nanoseconds, and their ratio. proved is NULL where its library is not built: the row then has dashes. */
+/* Times both sides on the same input, in turn, many times, and prints the row: what, book, records, entries, the time
+ * of a call of plain C and of Bachumoi in nanoseconds, each the median over the turns, and the median of the turns'
+ * ratios. proved is NULL where its library is not built. */
 void measure(const char *what, const struct input *input, side *plain, side *proved);
 
-/* Prints a row of two amounts of the unit named. proved below 0: not known. */
-void row(const char *what, const struct input *input, const char *unit, double plain, double proved);
+/* Prints a row of amounts in the unit named; the second has dashes for Bachumoi. */
+void row(const char *what, const struct input *input, const char *unit, double plain, double proved, double ratio);
+void row_of_plain(const char *what, const struct input *input, const char *unit, double plain);
 
-/* The bytes of stack that a call writes to, below those of a call that does nothing. Call the side once before: a first call may also bind its
- * library functions. */
+/* The bytes of stack that a call takes more than a call that does nothing, down to the lowest byte that it wrote. */
 size_t stack_of(side *of, const struct input *input);
 
 #endif

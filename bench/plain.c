@@ -32,123 +32,122 @@ static inline uint64_t big8(const uint8_t *p)
     return (uint64_t)big4(p) << 32 | big4(p + 4);
 }
 
-static inline bool finite(uint64_t bits)
+static inline bool is_finite(uint64_t bits)
 {
     return (bits >> 52 & 0x7FF) != 0x7FF;
 }
 
-/* ---- Judging: fields -------------------------------------------------------------------------------------- */
+/* ---- Judging a book ---------------------------------------------------------------------------------------- */
 
-/* What a parent sees of a child. The four shapes of a section, a match and a comparison go by category. */
-enum shape {
-    A_SET, A_POLICY, A_RULE, A_CONJUNCTION, A_GROUP, A_NOT, AN_OBLIGATION,
-    A_SECTION, A_MATCH = A_SECTION + 4, A_COMPARISON = A_MATCH + 4, SHAPES = A_COMPARISON + 4
-};
-
-/* What a kind and a choice ask of the other fields. A span and a category lie between two numbers, given as the least and how many above it.
- * Bytes 4 to 7 and 8 to 15 are zero where idle and idle_value have ones. A shape of 0 at category 0 is the first of its four. */
-struct form {
-    uint16_t least_span, more_spans;
-    uint8_t least_category, more_categories;
-    uint8_t types;          /* a bit for each type allowed: bit 0 if type and value are not used */
-    uint8_t shape;          /* to which the category is added */
-    uint32_t idle;
-};
-
-enum { NO_TYPE = 1, NUMBERS = 1 << INTEGER | 1 << DOUBLE, ANY_TYPE = NUMBERS | 1 << NAME };
-
-#define PARENT(shape, least) { least, 65535 - least, 0, 0, NO_TYPE, shape, 0xFFFFFFFF }
-#define TEST(shape, types) { 1, 0, 1, 3, types, shape - 1, 0 }
-#define TESTS(shape) \
-    TEST(shape, ANY_TYPE), TEST(shape, NUMBERS), TEST(shape, NUMBERS), TEST(shape, NUMBERS), TEST(shape, NUMBERS)
-#define DUTY { 1, 0, 0, 0, NO_TYPE, AN_OBLIGATION, 0xFFFF0000 }
-
-/* By kind and choice; where nothing stands no type is allowed, so no record is. */
-static const struct form forms[16][16] = {
-    [SET] = { [1] = PARENT(A_SET, 1), PARENT(A_SET, 1), PARENT(A_SET, 1), PARENT(A_SET, 1) },
-    [POLICY] = { [1] = PARENT(A_POLICY, 1), PARENT(A_POLICY, 1), PARENT(A_POLICY, 1) },
-    [RULE] = { [1] = PARENT(A_RULE, 1), PARENT(A_RULE, 1) },
-    [SECTION] = { [0] = { 2, 65533, 1, 3, NO_TYPE, A_SECTION - 1, 0x00FFFFFF } },
-    [CONJUNCTION] = { [0] = PARENT(A_CONJUNCTION, 2) },
-    [MATCH] = { [1] = TESTS(A_MATCH) },
-    [CONDITION] = { [AND] = PARENT(A_GROUP, 1), [OR] = PARENT(A_GROUP, 1), [NOT] = PARENT(A_NOT, 2),
-                    [COMPARISON + 1] = TESTS(A_COMPARISON) },
-    [OBLIGATION] = { [1] = DUTY, DUTY },
-};
-
-/* The type is allowed, and the value is one of it. */
-static inline bool value_fits(unsigned types, unsigned type, uint64_t value)
-{
-    return type <= DOUBLE && (types >> type & 1) && (type != DOUBLE || finite(value));
-}
-
-/* The shape of a record, or SHAPES if it breaks a field rule. */
-static inline unsigned shape_of(const uint8_t *record)
-{
-    uint64_t head = big8(record), value = big8(record + 8);
-    unsigned kind = head >> 56, choice = head >> 48 & 255, span = head >> 32 & 65535, category = head >> 24 & 255;
-    unsigned type = head >> 16 & 127;
-    if ((kind | choice) > 15)
-        return SHAPES;
-    const struct form *form = &forms[kind][choice];
-    uint64_t idle_value = form->types == NO_TYPE ? value : 0;
-    unsigned bad = (span - form->least_span > form->more_spans) | (category - form->least_category > form->more_categories) |
-        ((head & form->idle) != 0) | (idle_value != 0) | !value_fits(form->types, type, value);
-    return bad ? SHAPES : form->shape + category;
-}
-
-/* ---- Judging: places -------------------------------------------------------------------------------------- */
-
-/* What an open record has seen of its children. IN_x + c: sections up to category c; the rest as named. */
+/* What judging a record says of it: broken, or of no children, or the state in which it opens. The state of an open
+ * record is what it has seen of its children so far. IN_SET, IN_POLICY and IN_RULE stand for sections alone, and the
+ * category of the last one is added (0: none yet); to IN_SECTION and IN_CONJUNCTION the section's category is added. */
 enum state {
-    REFUSED,
+    BROKEN_FIELD, BROKEN_PLACE,
+    LEAF, DUTY,                 /* a match or comparison; an obligation */
+    FULL,                       /* at depth 16 */
+    TOP,                        /* before line 1 */
     IN_SET, SET_CHILDREN = IN_SET + 5, SET_OBLIGATIONS,
     IN_POLICY, POLICY_RULES = IN_POLICY + 5, POLICY_OBLIGATIONS,
     IN_RULE, RULE_CONDITION = IN_RULE + 5,
-    IN_SECTION, IN_CONJUNCTION = IN_SECTION + 4,
-    IN_GROUP = IN_CONJUNCTION + 4, IN_NOT, NOT_PART, STATES
+    IN_SECTION, IN_CONJUNCTION = IN_SECTION + 5,
+    IN_GROUP = IN_CONJUNCTION + 5, IN_NOT, NOT_PART
 };
 
-#define SECTIONS(in, last) \
-    [A_SECTION] = (last) < 1 ? (in) + 1 : REFUSED, [A_SECTION + 1] = (last) < 2 ? (in) + 2 : REFUSED, \
-    [A_SECTION + 2] = (last) < 3 ? (in) + 3 : REFUSED, [A_SECTION + 3] = (last) < 4 ? (in) + 4 : REFUSED
-#define CHILDREN [A_SET] = SET_CHILDREN, [A_POLICY] = SET_CHILDREN
-#define CONDITION_OF(in) [A_GROUP] = (in), [A_NOT] = (in), [A_COMPARISON] = (in), (in), (in), (in)
+static inline bool from_to(unsigned first, unsigned n, unsigned last)
+{
+    return n - first <= last - first;
+}
 
-#define SET_AFTER(last) [IN_SET + last] = { SECTIONS(IN_SET, last), CHILDREN, [AN_OBLIGATION] = SET_OBLIGATIONS }
-#define POLICY_AFTER(last) \
-    [IN_POLICY + last] = { SECTIONS(IN_POLICY, last), [A_RULE] = POLICY_RULES, [AN_OBLIGATION] = POLICY_OBLIGATIONS }
-#define RULE_AFTER(last) [IN_RULE + last] = { SECTIONS(IN_RULE, last), CONDITION_OF(RULE_CONDITION) }
-#define OF_CATEGORY(c) \
-    [IN_SECTION + c] = { [A_CONJUNCTION] = IN_SECTION + c }, [IN_CONJUNCTION + c] = { [A_MATCH + c] = IN_CONJUNCTION + c }
+static inline bool value_fits(unsigned type, uint64_t value)
+{
+    return from_to(INTEGER, type, DOUBLE) && (type != DOUBLE || is_finite(value));
+}
 
-/* The state of the parent after a child of this shape, or REFUSED: its parent does not allow it at that place. */
-static const uint8_t allows[STATES][SHAPES] = {
-    SET_AFTER(0), SET_AFTER(1), SET_AFTER(2), SET_AFTER(3), SET_AFTER(4),
-    [SET_CHILDREN] = { CHILDREN, [AN_OBLIGATION] = SET_OBLIGATIONS },
-    [SET_OBLIGATIONS] = { [AN_OBLIGATION] = SET_OBLIGATIONS },
-    POLICY_AFTER(0), POLICY_AFTER(1), POLICY_AFTER(2), POLICY_AFTER(3), POLICY_AFTER(4),
-    [POLICY_RULES] = { [A_RULE] = POLICY_RULES, [AN_OBLIGATION] = POLICY_OBLIGATIONS },
-    [POLICY_OBLIGATIONS] = { [AN_OBLIGATION] = POLICY_OBLIGATIONS },
-    RULE_AFTER(0), RULE_AFTER(1), RULE_AFTER(2), RULE_AFTER(3), RULE_AFTER(4),
-    OF_CATEGORY(0), OF_CATEGORY(1), OF_CATEGORY(2), OF_CATEGORY(3),
-    [IN_GROUP] = { CONDITION_OF(IN_GROUP) },
-    [IN_NOT] = { CONDITION_OF(NOT_PART) },
-};
+/* Bytes 4 to 15 of a match or a comparison. */
+static inline bool attribute_fits(unsigned function, uint32_t key, uint64_t value)
+{
+    unsigned type = key >> 16 & 127;    /* without must-be-present */
+    return from_to(1, key >> 24, 4) && value_fits(type, value) && (type != NAME || function == EQUAL);
+}
 
-/* The state in which a record of this shape opens. A conjunction's goes by its section. */
-static const uint8_t opens[SHAPES] = {
-    [A_SET] = IN_SET, [A_POLICY] = IN_POLICY, [A_RULE] = IN_RULE,
-    [A_GROUP] = IN_GROUP, [A_NOT] = IN_NOT,
-    [A_SECTION] = IN_SECTION, IN_SECTION + 1, IN_SECTION + 2, IN_SECTION + 3,
-};
+/* Judges a record whose parent is in this state, and moves the state on. */
+static inline __attribute__((always_inline)) unsigned judge_record(const uint8_t *record, unsigned *state)
+{
+    unsigned kind = record[0], choice = record[1], span = big2(record + 2), category = record[4], in = *state;
+    uint32_t key = big4(record + 4);
+    uint64_t value = big8(record + 8);
+    switch (kind) {
+    case SET:
+    case POLICY:
+        if (!from_to(1, choice, kind == SET ? 4 : 3) || span < 1 || (key | value) != 0)
+            return BROKEN_FIELD;
+        if (!from_to(TOP, in, SET_CHILDREN))
+            return BROKEN_PLACE;
+        *state = SET_CHILDREN;
+        return kind == SET ? IN_SET : IN_POLICY;
+    case RULE:
+        if (!from_to(1, choice, 2) || span < 1 || (key | value) != 0)
+            return BROKEN_FIELD;
+        if (!from_to(IN_POLICY, in, POLICY_RULES))
+            return BROKEN_PLACE;
+        *state = POLICY_RULES;
+        return IN_RULE;
+    case SECTION:
+        if (choice != 0 || span < 2 || !from_to(1, category, 4) || ((key & 0xFFFFFF) | value) != 0)
+            return BROKEN_FIELD;
+        if (in - IN_POLICY < category)
+            *state = IN_POLICY + category;
+        else if (in - IN_SET < category)
+            *state = IN_SET + category;
+        else if (in - IN_RULE < category)
+            *state = IN_RULE + category;
+        else
+            return BROKEN_PLACE;
+        return IN_SECTION + category;
+    case CONJUNCTION:
+        if (choice != 0 || span < 2 || (key | value) != 0)
+            return BROKEN_FIELD;
+        return from_to(IN_SECTION, in, IN_SECTION + 4) ? in - IN_SECTION + IN_CONJUNCTION : BROKEN_PLACE;
+    case MATCH:
+        if (!from_to(1, choice, 5) || span != 1 || !attribute_fits(choice, key, value))
+            return BROKEN_FIELD;
+        return in == IN_CONJUNCTION + category ? LEAF : BROKEN_PLACE;
+    case CONDITION:
+        if (from_to(11, choice, 15)
+                ? span != 1 || !attribute_fits(choice - COMPARISON, key, value)
+                : !from_to(AND, choice, NOT) || span < (choice == NOT ? 2 : 1) || (key | value) != 0)
+            return BROKEN_FIELD;
+        if (from_to(IN_RULE, in, IN_RULE + 4))
+            *state = RULE_CONDITION;
+        else if (in == IN_NOT)
+            *state = NOT_PART;
+        else if (in != IN_GROUP)
+            return BROKEN_PLACE;
+        return choice > NOT ? LEAF : choice == NOT ? IN_NOT : IN_GROUP;
+    case OBLIGATION:
+        if (!from_to(1, choice, 2) || span != 1 || (key >> 16 | value) != 0)
+            return BROKEN_FIELD;
+        if (from_to(IN_POLICY, in, POLICY_OBLIGATIONS))
+            *state = POLICY_OBLIGATIONS;
+        else if (from_to(IN_SET, in, SET_OBLIGATIONS))
+            *state = SET_OBLIGATIONS;
+        else
+            return BROKEN_PLACE;
+        return DUTY;
+    default:
+        return BROKEN_FIELD;
+    }
+}
 
-/* The refusal of a book whose first broken place is at index at: any broken field after it comes before. */
+/* The refusal of a book whose first broken place is at this index: any broken field comes before. */
 static uint64_t broken_place(const uint8_t *book, size_t at, size_t records)
 {
-    for (size_t i = at + 1; i < records; i++)
-        if (shape_of(book + i * SIZE) == SHAPES)
+    for (size_t i = at; i < records; i++) {
+        unsigned state = FULL;
+        if (judge_record(book + i * SIZE, &state) == BROKEN_FIELD)
             return refusal(5, BOOK, i + 1);
+    }
     return refusal(6, BOOK, at + 1);
 }
 
@@ -161,39 +160,38 @@ uint64_t plain_judge_book(const uint8_t *book, size_t book_len)
         return refusal(4, BOOK, 0);
     if (records > MOST_RECORDS)
         return refusal(2, BOOK, 0);
-
-    unsigned shape = shape_of(book);
-    if (shape == SHAPES)
-        return refusal(5, BOOK, 1);
-    if (shape > A_POLICY || big2(book + 2) != records)
+    if (big2(book + 2) != records)
         return broken_place(book, 0, records);
 
-    /* The innermost open record: its end and state; those around it wait in the two stacks. */
-    size_t ends[MOST_DEPTH], end = records;
-    unsigned states[MOST_DEPTH], state = opens[shape], around = 0;
+    /* The innermost open record, its end and its state; how many are open, and those around it. */
+    size_t end = records, ends[MOST_DEPTH], open = 0;
+    unsigned state = TOP, states[MOST_DEPTH];
     uint64_t obligations = 0;
-    for (size_t i = 1; i < records; i++) {
+    for (size_t i = 0; i < records; i++) {
         const uint8_t *record = book + i * SIZE;
-        shape = shape_of(record);
-        if (shape == SHAPES)
-            return refusal(5, BOOK, i + 1);
         while (i == end) {
-            around--;
-            end = ends[around];
-            state = states[around];
+            open--;
+            end = ends[open];
+            state = states[open];
+        }
+        unsigned opens = judge_record(record, &state);
+        if (opens == LEAF)
+            continue;
+        if (opens == DUTY) {
+            obligations++;
+            continue;
         }
         size_t its_end = i + big2(record + 2);
-        unsigned in = state;
-        state = allows[state][shape];
-        if (state == REFUSED || its_end > end || around + 2 > MOST_DEPTH)
+        if (opens == BROKEN_FIELD)
+            return refusal(5, BOOK, i + 1);
+        if (opens == BROKEN_PLACE || its_end > end)
             return broken_place(book, i, records);
-        obligations += shape == AN_OBLIGATION;
         if (its_end > i + 1) {
-            ends[around] = end;
-            states[around] = state;
-            around++;
+            ends[open] = end;
+            states[open] = state;
+            open++;
             end = its_end;
-            state = shape == A_CONJUNCTION ? in - IN_SECTION + IN_CONJUNCTION : opens[shape];
+            state = open < MOST_DEPTH ? opens : FULL;
         }
     }
     return 256 * obligations;
@@ -208,7 +206,7 @@ uint64_t plain_judge_request(const uint8_t *request, size_t request_len)
         return refusal(2, REQUEST, 0);
     for (size_t i = 0; i < entries; i++) {
         const uint8_t *entry = request + i * SIZE;
-        if (entry[0] - 1u > 3 || !value_fits(ANY_TYPE, entry[1], big8(entry + 8)) || big4(entry + 4) != 0)
+        if (!from_to(1, entry[0], 4) || !value_fits(entry[1], big8(entry + 8)) || big4(entry + 4) != 0)
             return refusal(5, REQUEST, i + 1);
     }
     return 0;

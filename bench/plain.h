@@ -9,10 +9,11 @@
 #include <stddef.h>
 #include <stdint.h>
 
-/* 256 x the number of obligation records of an accepted book, or its refusal (3, 4, 2, then the first 5, then the first 6). */
+/* 256 x the number of obligation records of an accepted book, or a refusal (3, 4, 2, then the first 5, then the
+ * first 6). */
 uint64_t plain_judge_book(const uint8_t *book, size_t book_len);
 
-/* 0 for an accepted request, or its refusal (4, 2, then the first 5). */
+/* 0 for an accepted request, or a refusal (4, 2, then the first 5). */
 uint64_t plain_judge_request(const uint8_t *request, size_t request_len);
 
 /* What bachumoi_decide answers, and what it leaves in out. */

@@ -1,4 +1,4 @@
-/* Tries the plain C of the benchmark on document 01's P1 to P11, its Run line, some refusals, and the examples' answers.
+/* Tries the plain C of the benchmark on document 01's P1 to P11, its Run line, some refusals, and the examples.
  * Run from the top of the repository; built by bench/run. Exit status 0 if all is right, else 1. */
 #include "books.h"
 #include "plain.h"
@@ -14,7 +14,8 @@ static uint8_t book[MOST_BOOK + RECORD], request[MOST_REQUEST + RECORD], out[MOS
 static void print_line(char *line, uint64_t number)
 {
     if ((number & 255) == 255) {
-        sprintf(line, "FF%02X%02X%04X", (unsigned)(number >> 8 & 255), (unsigned)(number >> 32), (unsigned)(number >> 16 & 65535));
+        unsigned why = number >> 8 & 255, part = number >> 32 & 255, at = number >> 16 & 65535;
+        sprintf(line, "FF%02X%02X%04X", why, part, at);
         return;
     }
     line += sprintf(line, "%02X%04X", (unsigned)(number & 255), (unsigned)(number >> 8));
@@ -22,7 +23,8 @@ static void print_line(char *line, uint64_t number)
         line += sprintf(line, "%02X%02X", out[2 * i], out[2 * i + 1]);
 }
 
-/* Decides and compares with the line expected; every byte of out after the obligations, or all on a refusal, must be as it has to be. */
+/* Decides and compares with the line expected. Of out, all lent bytes after the obligations must be zero and all the
+ * others as they were. */
 static void expect_bytes(const char *name, size_t book_len, size_t request_len, size_t out_len, const char *expected)
 {
     static char line[6 + 2 * MOST_OUT + 1];

@@ -1,6 +1,7 @@
-/* A C host: decides book A of document 01 through bachumoi_decide, prints a table, and checks every number and every byte.
+/* A C host: decides book A of document 01 through bachumoi_decide, prints a table, and checks every number and byte.
  *
- * All that is lent stands in heap buffers of exactly the lent length, so that valgrind sees any byte read or written beside them.
+ * All that is lent stands in heap buffers of exactly the lent length, so that valgrind sees any byte read or written
+ * beside them.
  * Exit status 0 if all is as document 01 says, else 1. host/run builds and runs it.
  */
 #include <bachumoi.h>
@@ -59,7 +60,8 @@ static int same(const uint8_t *a, const uint8_t *b, size_t len)
     return len == 0 || memcmp(a, b, len) == 0;
 }
 
-/* Decides, prints the row, and compares: the number with answer, out with the bytes left, and that book and request kept theirs. */
+/* Decides, prints the row, and compares: the number with answer, out with the bytes left in it; book and request must
+ * have kept theirs. */
 static void expect(const char *name, struct bytes book, struct bytes request, uint64_t answer, struct bytes left)
 {
     uint8_t *lent_book = lend(book), *lent_request = lend(request), *out = lend(left);

@@ -1,8 +1,8 @@
 /* Bachumoi: access decisions of XACML 2.0 over books of fixed-length records, proved right.
  *
- * The functions keep nothing between calls, allocate nothing, print nothing and may be called from any thread. They accept every input:
- * whatever the bytes lent, they return, with a decision or a refusal. The slices of one call must not overlap where one is written.
- * An empty slice may be lent as NULL with length 0.
+ * The functions keep nothing between calls, allocate nothing, print nothing, and may be called from any thread.
+ * Whatever the bytes lent, they return, with a decision or a refusal. Of the slices lent to one call, one that is
+ * written must not overlap another. An empty slice may be lent as NULL with length 0.
  */
 #ifndef BACHUMOI_H
 #define BACHUMOI_H
@@ -30,8 +30,8 @@ extern "C" {
  *                4  Indeterminate
  *   bits 8-23    count, how many obligations there are (0 unless Permit or Deny)
  *
- *   out then holds count numbers of two bytes each, the higher byte first, in the order of the standard; every other byte of
- *   out is zero, an odd last one too.
+ *   out then holds count numbers of two bytes each, the higher byte first, in the order in which they were handed
+ *   up; every other byte of out is zero, an odd last one too.
  *
  * A refusal: 255 + 256 x number + 65,536 x line + 4,294,967,296 x part
  *
@@ -40,19 +40,21 @@ extern "C" {
  *                2  more than 1,000 records or 64 entries
  *                3  the book is empty
  *                4  the length is not a multiple of 16
- *                5  a record or entry breaks a field rule: kind, choice, category, type, finite value, function of a name,
- *                   unused bytes, or a span that its kind cannot have
- *                6  a record breaks a place rule: line 1 is no policy or set, or its span is not the record count; or a record runs
- *                   past its parent's end, stands where its parent does not allow it, has the wrong category, or is nested deeper than 16
+ *                5  a record or entry breaks a field rule: kind, choice, category, type, finite value, function of
+ *                   a name, unused bytes, or a span that its kind cannot have
+ *                6  a record breaks a place rule: line 1 is no policy or set, or its span is not the record count;
+ *                   elsewhere a record runs past its parent's end, stands where its parent does not allow it, has
+ *                   the wrong category for its section or target, or is nested deeper than 16
  *                7  out is too short
+ *                (1 is for texts and 8 for programmes: this call gives neither)
  *   bits 16-31   line, the first that breaks the rule, counting records or entries from 1; 0 with 2, 3, 4 and 7
  *   bits 32-39   part, of what:
  *                1  the book
  *                2  the request
  *                3  the output
  *
- *   The book is judged first (3, 4, 2, then the first line with 5, then the first line with 6), then the request (4, 2, 5), then the
- *   output (7). out keeps its bytes.
+ *   The book is judged first (3, 4, 2, then the first line with 5, then the first line with 6), then the request
+ *   (4, 2, then the first line with 5), then the output (7). out keeps its bytes.
  *
  * For example, book A of examples/a with its request for 40 gives 0x102: Deny, one obligation; out is 00 12 00 00.
  * An empty book gives 0x1000003FF: refused, number 3, line 0, part 1.

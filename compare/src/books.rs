@@ -37,7 +37,7 @@ impl Style {
             set_depth: random.between(1, 6),
             nest: random.pick(&[20, 40, 60]),
             children: random.between(1, 5),
-            sections: random.pick(&[0, 5, 12, 30, 60]),
+            sections: random.pick(&[0, 0, 5, 12, 25, 50]),
             matches: random.between(1, 3),
             conditions: random.pick(&[0, 30, 60, 100]),
             logic: random.pick(&[0, 30, 60]),
@@ -152,7 +152,7 @@ pub fn obligation(effect: u8, number: u16) -> Record {
 pub fn value(random: &mut Random, value_type: u8) -> [u8; 8] {
     let integers = [0, 1, -1, 50, 49, 51, -50, i64::MAX, i64::MIN, i64::MAX - 1, 1 << 32, -(1 << 32)];
     let doubles =
-        [0.0, -0.0, 1.0, -1.0, 0.1, 5e-324, -5e-324, f64::MIN_POSITIVE, 2.5e-310, f64::MAX, f64::MIN, 1e300, 4.5, -4.5];
+        [0.0, -0.0, 0.0, -0.0, 1.0, -1.0, 0.1, 5e-324, -5e-324, f64::MIN_POSITIVE, 2.5e-310, f64::MAX, f64::MIN, 1e300, 4.5, -4.5];
     match value_type {
         DOUBLE if random.chance(80) => random.pick(&doubles).to_be_bytes(),
         DOUBLE => finite(random.next()).to_be_bytes(),
@@ -200,8 +200,8 @@ impl<'r> Generator<'r> {
         let set = self.open(SET, algorithm);
         self.target(depth);
         let fill = self.style.fill && depth == 1;
-        let mut children = self.random.between(0, self.style.children);
-        while (children > 0 || fill) && depth < MOST_DEPTH && self.room() > 0 {
+        let mut children = self.children(depth);
+        while (children > 0 || fill) && self.room() > 0 {
             if depth < self.style.set_depth && self.random.chance(self.style.nest) {
                 self.set(depth + 1);
             } else {
@@ -213,12 +213,19 @@ impl<'r> Generator<'r> {
         self.close(set);
     }
 
+    /// How many policies or rules a set or policy at this depth is to have.
+    fn children(&mut self, depth: usize) -> usize {
+        if depth == MOST_DEPTH || self.random.chance(8) {
+            return 0;
+        }
+        self.random.between(1, self.style.children)
+    }
+
     fn policy(&mut self, depth: usize) {
         let algorithm = self.random.between(1, 3);
         let policy = self.open(POLICY, algorithm);
         self.target(depth);
-        let rules = if depth < MOST_DEPTH { self.random.between(0, self.style.children) } else { 0 };
-        for _ in 0..rules {
+        for _ in 0..self.children(depth) {
             if self.room() > 0 {
                 self.rule(depth + 1);
             }

@@ -247,10 +247,10 @@ fn swap_siblings(random: &mut Random, records: &mut Vec<Record>) {
     }
 }
 
-/// The book inside so many sets that its depth comes near 16.
+/// The book inside so many sets that its depth comes near 16, or that the depth of its targets does.
 fn wrap(random: &mut Random, mut records: Vec<Record>) -> Vec<Record> {
     let depth = (0..records.len()).map(|at| ancestors(&records, at).len() + 1).max().unwrap_or(1);
-    let goal = random.between(15, 18);
+    let goal = random.pick(&[15, 16, 16, 17, 17, 18, 19, 20]);
     for _ in depth..goal {
         let mut set = record(SET, random.between(1, 4) as u8);
         set.set_span(records.len() + 1);

@@ -3,10 +3,14 @@
 
 use crate::refusal::{Part, Refusal};
 
-/// Reading, writing and judging. Answers are packed: 256 times what was filled or counted, or the refusal.
-pub trait Probe: Sync {
+/// Reading and writing: 256 x bytes filled, or the refusal.
+pub trait Texts: Sync {
     fn read(&self, part: Part, text: &[u8], out: &mut [u8]) -> u64;
     fn write(&self, part: Part, bytes: &[u8], out: &mut [u8]) -> u64;
+}
+
+/// Judging, or the refusal.
+pub trait Judge: Sync {
     /// 256 x records + 16,777,216 x obligation records.
     fn judge_book(&self, book: &[u8]) -> u64;
     /// 256 x entries.
@@ -31,12 +35,13 @@ pub struct Tick {
     pub steps: u64,
 }
 
-/// A field of the state: the number it is in, its lowest bit, its width in bits.
+/// A field of the state: the number it is in, its lowest bit, its width in bits, its largest value.
 #[derive(Clone, Copy)]
 pub struct Field {
     pub number: usize,
     pub low: u32,
     pub width: u32,
+    pub most: u64,
 }
 
 /// Translating and running over ticks.
@@ -47,5 +52,5 @@ pub trait Rig: Sync {
     fn fresh(&self, state: &mut [u64]) -> u64;
     fn tick(&self, programme: &[u64], request: &[u8], state: &mut [u64], budget: u64, out: &mut [u16]) -> Tick;
     /// The fields of the published layout.
-    fn fields(&self) -> Vec<Field>;
+    fn fields(&self) -> &'static [Field];
 }

@@ -14,20 +14,11 @@ use Rattle.meaning.specs.declared.Decision.{Decision}
 use Rattle.meaning.specs.declared.Decision.the-variants.{Permit, Deny, NotApplicable, Indeterminate}
 use Rattle.meaning.specs.declared.Algorithm.{Algorithm}
 use Rattle.meaning.specs.declared.Algorithm.the-variants.{RulesDeny, RulesPermit, First, PoliciesDeny, PoliciesPermit, OnlyOne}
-use Rattle.algorithm.specs.Fold.{start, join, rankOf, byEffect, answer, result, top, anyRank, settled, absorb}
+use Rattle.algorithm.specs.Fold.{start, join, rankOf, byEffect, answer, result, top, anyRank, settled, absorb, isOnly}
 use Rattle.algorithm.specs.declared.Rank.{Rank}
 use Rattle.algorithm.specs.declared.Rank.the-variants.{R0, R1, R2, R3, R4}
 use Rattle.algorithm.specs.declared.Acc.{Acc}
 use Rattle.algorithm.specs.declared.Acc.the-variants.{Ranked, Nobody, Pending, Two, One}
-
--- only-one looks at its children's targets
-abbrev pub isOnly : Algorithm → Bool
-isOnly RulesDeny = false
-isOnly RulesPermit = false
-isOnly First = false
-isOnly PoliciesDeny = false
-isOnly PoliciesPermit = false
-isOnly OnlyOne = true
 
 -- a child is taken in: under only-one its matching target is noted first
 abbrev pub takesOn : Bool → Truth → Acc → Algorithm → Child → Acc

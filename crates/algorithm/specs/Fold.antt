@@ -132,3 +132,11 @@ absorb a Pending e d = One d
 absorb a Two e d = Two
 absorb a (One x) e d = unlessFailed d (One x)
 
+-- only-one looks at its children's targets
+abbrev pub isOnly : Algorithm → Bool
+isOnly RulesDeny = false
+isOnly RulesPermit = false
+isOnly First = false
+isOnly PoliciesDeny = false
+isOnly PoliciesPermit = false
+isOnly OnlyOne = true

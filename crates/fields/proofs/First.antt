@@ -149,13 +149,31 @@ module _ (f : ℕ → Bool) where
       by (f i) (λ t. let u : firstFrom f (i + 1) k < i + suc k = rw t at e in rw t (first-in (i + 1) k m (omega arith) (omega arith)))
       (λ t. rw t)
 
-  pub first-all : (i k : ℕ) → firstFrom f i k ≡ i + k → (j : ℕ) → i ≤ j → j < i + k → f j ≡ true
+  -- each before the first that fails passes, and the first that fails does fail
+  pub first-before : (i k j : ℕ) → i ≤ j → j < firstFrom f i k → f j ≡ true
   unfolding firstFrom
-  first-all i zero e j a z = absurd (omega arith)
-  first-all i (suc k) e j a z =
-      by (f i) (λ t. let u : firstFrom f (i + 1) k ≡ i + 1 + k = (rw t at e) ∙ omega arith in
-      ⊎-elim (λ (q : i ≡ j). ap f (sym q) ∙ t) (λ (l : i < j). first-all (i + 1) k u j (omega arith) (omega arith)) (eq-or-lt-of-le a))
-      (λ t. let u : i ≡ i + suc k = rw t at e in absurd (omega arith))
+  first-before i zero j a z = absurd (omega arith)
+  first-before i (suc k) j a z =
+      by (f i) (λ t. ⊎-elim (λ (q : i ≡ j). ap f (sym q) ∙ t) (λ (l : i < j). first-before (i + 1) k j (omega arith) (rw t at z)) (eq-or-lt-of-le a))
+      (λ t. let u : j < i = rw t at z in absurd (omega arith))
+
+  pub first-all : (i k : ℕ) → firstFrom f i k ≡ i + k → (j : ℕ) → i ≤ j → j < i + k → f j ≡ true
+  first-all i k e j a z = first-before i k j a (omega arith)
+
+  pub first-fails : (i k : ℕ) → firstFrom f i k < i + k → f (firstFrom f i k) ≡ false
+  unfolding firstFrom
+  first-fails i zero h = absurd (omega arith)
+  first-fails i (suc k) h =
+      by (f i) (λ t. let u : firstFrom f (i + 1) k < i + suc k = rw t at h in rw t (first-fails (i + 1) k (omega arith))) (λ t. rw t t)
+
+  -- where it is
+  pub first-is : (i k m : ℕ) → i ≤ m → m < i + k → f m ≡ false → ((j : ℕ) → i ≤ j → j < m → f j ≡ true) → firstFrom f i k ≡ m
+  unfolding firstFrom
+  first-is i zero m l h e g = absurd (omega arith)
+  first-is i (suc k) m l h e g =
+      ⊎-elim (λ (q : i ≡ m). rw (ap f q ∙ e) q)
+      (λ (z : i < m). rw (g i (omega arith) z) (first-is (i + 1) k m (omega arith) (omega arith) e (λ j a v. g j (omega arith) v)))
+      (eq-or-lt-of-le l)
 
   -- each passes: the search runs through
   first-reachF : (i k : ℕ) → ((j : ℕ) → i ≤ j → j < i + k → f j ≡ true) → firstFrom f i k ≡ i + k

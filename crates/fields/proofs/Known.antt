@@ -99,6 +99,11 @@ pub span-pos : (b : List ℕ) (i : ℕ) → fieldOk b i ≡ true → 1 ≤ spanO
 unfolding fieldOk
 span-pos b i e = span-of b i (kindAt b i) e
 
+-- a section that keeps them has a category
+pub category-pos : (b : List ℕ) (i : ℕ) → fieldOk b i ≡ true → kindAt b i ≡ Section → 1 ≤ byteOf b i 4
+unfolding fieldOk
+category-pos b i e q = section-is b i (rw q at e) .1 .0
+
 pub kept-is-known : KeptIsKnown
 unfolding fieldOk
 kept-is-known b i h e = record {

@@ -14,7 +14,7 @@ use Rattle.record.specs.Bytes.{size, byteOf, spanOf}
 use Rattle.fields.specs.First.{lastBelow, countBelow, firstFrom}
 use Rattle.fields.specs.Fields.{kindAt, fieldOk, obligationsOf}
 use Rattle.fields.specs.declared.Kind.{Kind}
-use Rattle.fields.proofs.First.{by, last-is, last-ge, last-of, count-skip, count-one, count-same, first-here, first-next, first-le, first-past, first-in, first-all}
+use Rattle.fields.proofs.First.{by, last-is, last-ge, last-of, count-skip, count-one, count-same, first-none, first-here, first-next, first-le, first-past, first-in, first-all}
 use Rattle.fields.proofs.Known.{span-pos}
 use Rattle.judge.specs.Place.{endOf, covers, parentOf, elderOf, depthOf, numberOf, takesOf, stepOf, underOk, rankOf, rankAt, elderRank, standsOk, childRule, childBroken, topOk, brokenAt, placeOk}
 use Rattle.judge.specs.Walk.{Walk, Finds}
@@ -23,12 +23,6 @@ use Rattle.judge.specs.declared.Judged.the-variants.{Accepted}
 pub span-end : (b : List ℕ) (i s : ℕ) → s ≡ spanOf b i → endOf b i ≡ i + s
 unfolding endOf
 span-end b i s e = rw e
-
-both-second : (s t u : Bool) → both s (both t u) ≡ true → t ≡ true
-both-second true true u e = refl
-both-second true false u e = e
-both-second false true u e = refl
-both-second false false u e = e
 
 end-after : (b : List ℕ) (i : ℕ) → 1 ≤ spanOf b i → i < endOf b i
 unfolding endOf
@@ -114,11 +108,22 @@ rule-none : (end top d : ℕ) (t : Bool) → childRule end top d t ≡ 0 → (en
 unfolding childRule
 rule-none end top d t e = let w = tests (leb end top) t (leb d 16) e in (leb-true end top (w .0), w .1, leb-true d 16 (w .2))
 
-pub ordered : (p : ℕ) (k : Kind) (c e g : ℕ) → standsOk p k c e g ≡ true → e + stepOf p k ≤ rankOf k c
+-- a child that may stand there: its parent takes it, it comes after the child before, and a match has its section's category
+both-parts : (s t u : Bool) → both s (both t u) ≡ true → (s ≡ true) × (t ≡ true) × (u ≡ true)
+both-parts true true true e = (refl, refl, refl)
+both-parts true true false e = (refl, refl, e)
+both-parts true false u e = let z : _≡_ {A = ℕ} 0 1 = cc in absurd (omega arith)
+both-parts false t u e = let z : _≡_ {A = ℕ} 0 1 = cc in absurd (omega arith)
+
+pub stands-parts : (p : ℕ) (k : Kind) (c e g : ℕ) → standsOk p k c e g ≡ true → (takesOf p k ≡ true) × (e + stepOf p k ≤ rankOf k c) × (underOk k g c ≡ true)
 unfolding standsOk
-ordered p k c e g x =
-    leb-true (e + stepOf p k) (rankOf k c)
-    (both-second (takesOf p k) (leb (e + stepOf p k) (rankOf k c)) (underOk k g c) x)
+stands-parts p k c e g x =
+    let w = both-parts (takesOf p k) (leb (e + stepOf p k) (rankOf k c)) (underOk k g c) x in
+    (w .0, leb-true (e + stepOf p k) (rankOf k c) (w .1), w .2)
+
+pub rule-zero : (end top d : ℕ) (t : Bool) → end ≤ top → t ≡ true → d ≤ 16 → childRule end top d t ≡ 0
+unfolding childRule
+rule-zero end top d t h e g = rw (le-leb end top h, e, le-leb d 16 g)
 
 -- what a record that keeps the rules says of its parent
 pub kept-at : (b : List ℕ) (j : ℕ) → 0 < j → placeOk b j ≡ true
@@ -152,114 +157,122 @@ module _ (b : List ℕ) {p i e d pn gc pc er : ℕ} (w : Walk b p i e d pn gc pc
   pub inside : (j : ℕ) → i ≤ j → j < e → endOf b j ≤ e
   inside j a z = insideF (suc j) j (omega arith) a z
 
--- from a record to its children, and to the one behind it
-module _ (b : List ℕ) {p i e d pn gc pc er : ℕ} (w : Walk b p i e d pn gc pc er) (l : i < e) {k : Kind} {c end : ℕ} (ek : k ≡ kindAt b i)
-    (ec : c ≡ byteOf b i 4) (ee : end ≡ endOf b i) (ok : placeOk b i ≡ true) where
-  end-le : end ≤ e
-  end-le = omega (arith, ends-within b i (omega (arith, w .after)) ok, ap (endOf b) (parent-is b w l), w .ends)
+-- a child of p that breaks no rule
+pub record Passed (b : List ℕ) (p i e d pn gc pc er : ℕ) (k : Kind) (c end : ℕ) : Type 0 where
+  pub walk : Walk b p i e d pn gc pc er
+  pub inside : i < e
+  pub kind : k ≡ kindAt b i
+  pub category : c ≡ byteOf b i 4
+  pub ends : end ≡ endOf b i
+  pub ok : placeOk b i ≡ true
 
-  end-gt : i < end
-  end-gt = omega (arith, end-after b i (w .spans i l))
-
-  pub to-kids : Walk b i (i + 1) end (d + 1) (numberOf k) pc c 0
-  unfolding elderRank
-  to-kids = record {
-    after = omega arith;
-    upto = omega (arith, end-gt);
-    ends = ee;
-    spans = λ j z. w .spans j (omega (arith, end-le));
-    outer = λ j z x. ⊎-elim (λ (t : j ≡ p). omega (arith, end-le, w .ends, ap (endOf b) t))
-        (λ (t : j < p ⊎ p < j). ⊎-elim
-        (λ (t : j < p). omega (arith, end-le, w .outer j t (omega (arith, w .after))))
-        (λ (t : p < j). absurd (omega (arith, w .inner j t z))) t) (apart j p);
-    inner = λ j a z. absurd (omega arith);
-    depth = depth-is b w l;
-    elder = i;
-    elder-from = omega arith;
-    elder-to = omega arith;
-    elder-of = λ x. absurd (omega arith);
-    elder-first = λ x. refl;
-    elder-end = λ x. absurd (omega arith);
-    number = ap numberOf ek;
-    grand = w .own ∙ ap (λ (n : ℕ). byteOf b n 4) (sym (parent-is b w l));
-    own = ec;
-    rank = rw (eq-eqb i i refl);
-  }
-
-  pub to-rest : ((j : ℕ) → i + 1 ≤ j → j < end → placeOk b j ≡ true) → {r : ℕ} → r ≡ rankOf k c → Walk b p end e d pn gc pc r
-  unfolding elderRank rankAt
-  to-rest kids er = record {
-    after = omega (arith, w .after, end-gt);
-    upto = end-le;
-    ends = w .ends;
-    spans = w .spans;
-    outer = w .outer;
-    inner = λ j a z. ⊎-elim (λ (t : j ≡ i). omega (arith, ap (endOf b) t))
-        (λ (t : j < i ⊎ i < j). ⊎-elim
-        (λ (t : j < i). omega (arith, w .inner j a t, end-gt))
-        (λ (t : i < j). inside b to-kids kids j (omega arith) z) t) (apart j i);
-    depth = w .depth;
-    elder = i;
-    elder-from = omega (arith, w .after);
-    elder-to = end-gt;
-    elder-of = λ x. parent-is b w l;
-    elder-first = λ x. absurd (omega (arith, w .after));
-    elder-end = λ x. omega (arith, ee);
-    number = w .number;
-    grand = w .grand;
-    own = w .own;
-    rank = rw (ne-eqb i p (λ x. omega (arith, w .after)), ← ek, ← ec) er;
-  }
-
--- the returns of the walk, and what its calls ask
-module _ (b : List ℕ) {p i e d pn gc pc er : ℕ} (w : Walk b p i e d pn gc pc er) (l : i < e) {k : Kind} {c end : ℕ} (ek : k ≡ kindAt b i)
-    (ec : c ≡ byteOf b i 4) (ee : end ≡ endOf b i) {s : Bool} (es : s ≡ standsOk pn k c er gc) {u : ℕ} (eu : u ≡ childRule end e (d + 1) s) where
+-- the test of a child
+module _ (b : List ℕ) {p i e d pn gc pc er : ℕ} (w : Walk b p i e d pn gc pc er) (l : i < e) {k : Kind} {c s : ℕ} (ek : k ≡ kindAt b i)
+    (ec : c ≡ byteOf b i 4) (es : s ≡ spanOf b i) {t : Bool} (et : t ≡ standsOk pn k c er gc) {u : ℕ} (eu : u ≡ childRule (i + s) e (d + 1) t) where
   pub stop-here : (u ≡ 0 → ⊥) → Finds b i (e - i) i u
   unfolding placeOk
-  stop-here t =
-      let x = rule-is b w l ek ec ee es eu in
-      record { place = sym (first-here (placeOk b) i (e - i) (omega arith) (ne-eqb (brokenAt b i) 0 (λ y. t (x ∙ y)))); which = λ z. x }
+  stop-here n =
+      let x = rule-is b w l ek ec (sym (span-end b i s es)) et eu in
+      record { place = sym (first-here (placeOk b) i (e - i) (omega arith) (ne-eqb (brokenAt b i) 0 (λ y. n (x ∙ y)))); which = λ z. x }
 
-  module _ (t : u ≡ 0) where
-    pub ok-here : placeOk b i ≡ true
-    unfolding placeOk
-    ok-here = eq-eqb (brokenAt b i) 0 (sym (rule-is b w l ek ec ee es eu) ∙ t)
+  pub passed : u ≡ 0 → Passed b p i e d pn gc pc er k c (i + s)
+  unfolding placeOk
+  passed z =
+      let x : i + s ≡ endOf b i = sym (span-end b i s es) in
+      record { walk = w; inside = l; kind = ek; category = ec; ends = x; ok = eq-eqb (brokenAt b i) 0 (sym (rule-is b w l ek ec x et eu) ∙ z) }
 
-    pub bounds : (i < end) × (end ≤ e) × (d < 16)
-    bounds = (end-gt b w l ek ec ee ok-here, end-le b w l ek ec ee ok-here, omega (arith, rule-none end e (d + 1) s (sym eu ∙ t)))
+-- from a child to its children, and to the child behind it
+module _ (b : List ℕ) {p i e d pn gc pc er : ℕ} {k : Kind} {c end : ℕ} (h : Passed b p i e d pn gc pc er k c end) where
+  w : Walk b p i e d pn gc pc er
+  w = h .walk
 
-    pub kids : {n : ℕ} → n ≡ numberOf k → Walk b i (i + 1) end (d + 1) n pc c 0
-    kids en = rw en (to-kids b w l ek ec ee ok-here)
+  pub bounds : (i < end) × (end ≤ e) × (d < 16)
+  bounds =
+      let y = kept-at b i (omega (arith, w .after)) (h .ok) in
+      let x = ap (endOf b) (parent-is b w (h .inside)) in
+      (
+        omega (arith, h .ends, end-after b i (w .spans i (h .inside))),
+        omega (arith, h .ends, y .0, x, w .ends),
+        omega (arith, y .2, depth-is b w (h .inside)),
+      )
 
-    module _ {r x : ℕ} (fb : Finds b (i + 1) (end - (i + 1)) r x) where
-      eb : r ≡ firstFrom (placeOk b) (i + 1) (end - (i + 1))
-      eb = fb .place
+  pub kids : {n : ℕ} → n ≡ numberOf k → Walk b i (i + 1) end (d + 1) n pc c 0
+  unfolding elderRank
+  kids en =
+      let o = bounds in
+      record {
+        after = omega arith;
+        upto = omega arith;
+        ends = h .ends;
+        spans = λ j z. w .spans j (omega arith);
+        outer = λ j z x. ⊎-elim (λ (t : j ≡ p). omega (arith, w .ends, ap (endOf b) t))
+            (λ (t : j < p ⊎ p < j). ⊎-elim
+            (λ (t : j < p). omega (arith, w .outer j t (omega (arith, w .after))))
+            (λ (t : p < j). absurd (omega (arith, w .inner j t z))) t) (apart j p);
+        inner = λ j a z. absurd (omega arith);
+        depth = depth-is b w (h .inside);
+        elder = i;
+        elder-from = omega arith;
+        elder-to = omega arith;
+        elder-of = λ x. absurd (omega arith);
+        elder-first = λ x. refl;
+        elder-end = λ x. absurd (omega arith);
+        number = en ∙ ap numberOf (h .kind);
+        grand = w .own ∙ ap (λ (n : ℕ). byteOf b n 4) (sym (parent-is b w (h .inside)));
+        own = h .category;
+        rank = rw (eq-eqb i i refl);
+      }
 
-      pub stop-in : r < end → Finds b i (e - i) r x
-      stop-in z =
-          let y = bounds in
-          let s = first-in (placeOk b) (i + 1) (end - (i + 1)) (e - (i + 1)) (omega arith) (omega (arith, eb)) in
+  module _ {r x : ℕ} (f : Finds b (i + 1) (end - (i + 1)) r x) where
+    pub stop-in : r < end → Finds b i (e - i) r x
+    stop-in z =
+        let y = bounds in
+        let g = f .place in
+        let s = first-in (placeOk b) (i + 1) (end - (i + 1)) (e - (i + 1)) (omega arith) (omega arith) in
+        record {
+          place = g ∙ sym s ∙ sym (first-next (placeOk b) i (e - i) (e - (i + 1)) (omega arith) (h .ok));
+          which = λ v. f .which (omega arith);
+        }
+
+    module _ (z : end ≤ r) where
+      through : firstFrom (placeOk b) (i + 1) (end - (i + 1)) ≡ i + 1 + (end - (i + 1))
+      through = let y = bounds in omega (arith, f .place, first-le (placeOk b) (i + 1) (end - (i + 1)))
+
+      pub rest : {x : ℕ} → x ≡ rankOf k c → Walk b p end e d pn gc pc x
+      unfolding elderRank rankAt
+      rest er =
+          let o = bounds in
           record {
-            place = eb ∙ sym s ∙ sym (first-next (placeOk b) i (e - i) (e - (i + 1)) (omega arith) ok-here);
-            which = λ v. fb .which (omega arith);
+            after = omega (arith, w .after);
+            upto = omega arith;
+            ends = w .ends;
+            spans = w .spans;
+            outer = w .outer;
+            inner = λ j a v. ⊎-elim (λ (t : j ≡ i). omega (arith, h .ends, ap (endOf b) t))
+                (λ (t : j < i ⊎ i < j). ⊎-elim
+                (λ (t : j < i). omega (arith, w .inner j a t))
+                (λ (t : i < j). inside b (kids refl) (λ m q s. first-all (placeOk b) (i + 1) (end - (i + 1)) through m q (omega arith)) j (omega arith) v) t)
+                (apart j i);
+            depth = w .depth;
+            elder = i;
+            elder-from = omega (arith, w .after);
+            elder-to = omega arith;
+            elder-of = λ x. parent-is b w (h .inside);
+            elder-first = λ x. absurd (omega (arith, w .after));
+            elder-end = λ x. omega (arith, h .ends);
+            number = w .number;
+            grand = w .grand;
+            own = w .own;
+            rank = rw (ne-eqb i p (λ x. omega (arith, w .after)), ← h .kind, ← h .category) er;
           }
 
-      module _ (z : end ≤ r) where
-        through : firstFrom (placeOk b) (i + 1) (end - (i + 1)) ≡ i + 1 + (end - (i + 1))
-        through = let y = bounds in omega (arith, eb, first-le (placeOk b) (i + 1) (end - (i + 1)))
-
-        pub rest : {x : ℕ} → x ≡ rankOf k c → Walk b p end e d pn gc pc x
-        rest ex =
-            let y = bounds in
-            to-rest b w l ek ec ee ok-here (λ j a v. first-all (placeOk b) (i + 1) (end - (i + 1)) through j a (omega arith)) ex
-
-        pub go-on : {v : ℕ} → v ≡ firstFrom (placeOk b) end (e - end) → v ≡ firstFrom (placeOk b) i (e - i)
-        go-on ev =
-            let y = bounds in
-            let s = first-past (placeOk b) (i + 1) (end - (i + 1)) (e - (i + 1)) (omega arith) through in
-            let m : i + 1 + (end - (i + 1)) ≡ end = omega arith in
-            let n : e - (i + 1) - (end - (i + 1)) ≡ e - end = omega arith in
-            ev ∙ sym (rw (m, n) at s) ∙ sym (first-next (placeOk b) i (e - i) (e - (i + 1)) (omega arith) ok-here)
+      pub go-on : {v : ℕ} → v ≡ firstFrom (placeOk b) i (e - i) → v ≡ firstFrom (placeOk b) end (e - end)
+      go-on ev =
+          let y = bounds in
+          let s = first-past (placeOk b) (i + 1) (end - (i + 1)) (e - (i + 1)) (omega arith) through in
+          let m : i + 1 + (end - (i + 1)) ≡ end = omega arith in
+          let n : e - (i + 1) - (end - (i + 1)) ≡ e - end = omega arith in
+          ev ∙ first-next (placeOk b) i (e - i) (e - (i + 1)) (omega arith) (h .ok) ∙ (rw (m, n) at s)
 
 -- line 1
 module _ (b : List ℕ) {n m : ℕ} {k : Kind} {u : Bool} (h : 0 < n) (el : length b ≡ n * 16) (ek : k ≡ kindAt b 0) (em : m ≡ numberOf k) (eu : u ≡ among 1 2 m) where
@@ -308,6 +321,10 @@ module _ (b : List ℕ) {n m : ℕ} {k : Kind} {u : Bool} (h : 0 < n) (el : leng
         own = ec;
         rank = refl;
       }
+
+-- where nothing stands below a child, nothing there breaks a rule
+pub found-leaf : (b : List ℕ) (i : ℕ) {end : ℕ} → end ≡ i + 1 → Finds b (i + 1) (end - (i + 1)) end 0
+found-leaf b i e = record { place = e ∙ sym (first-none (placeOk b) (i + 1) _ (omega arith)); which = λ z. absurd (omega arith) }
 
 -- the search of a row is that of its rest
 pub found : (b : List ℕ) {i k j m at rule : ℕ} → Finds b j m at rule → firstFrom (placeOk b) i k ≡ firstFrom (placeOk b) j m → i + k ≡ j + m → Finds b i k at rule

@@ -1,2 +1,5 @@
 -- What the proofs of several functions, and of other crates, use.
 pub mod Laws
+pub mod Exactly
+pub mod ExactlyRequest
+pub mod Sound

@@ -2,4 +2,6 @@ pub mod Place
 pub mod Walk
 pub mod Judge
 pub mod Request
-
+pub mod Exactly
+pub mod ExactlyRequest
+pub mod Sound

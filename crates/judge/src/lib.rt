@@ -206,12 +206,16 @@ fn walk(book: &[u8], p: usize, top: usize, d: usize, pn: usize, gc: usize, pc: u
         if rule != 0 {
             return Broken { at: i, rule };
         }
-        let bad = walk(book, i, next, d + 1, number(k), pc, c);
+        let at = i;
+        er = rank(k, c);
+        i = next;
+        if next == at + 1 {
+            continue;
+        }
+        let bad = walk(book, at, next, d + 1, number(k), pc, c);
         if bad.at < next {
             return bad;
         }
-        er = rank(k, c);
-        i = next;
     }
     Broken { at: top, rule: 0 }
 }

@@ -66,16 +66,16 @@ unfoldable pub opBy : ℕ → Op
 opBy n = if (eqb n 0) All (if (eqb n 1) Any Not)
 
 abbrev pub algorithmCode : Algorithm → ℕ
-algorithmCode RulesDeny = 0
-algorithmCode RulesPermit = 1
-algorithmCode First = 2
+algorithmCode First = 0
+algorithmCode RulesDeny = 1
+algorithmCode RulesPermit = 2
 algorithmCode PoliciesDeny = 3
 algorithmCode PoliciesPermit = 4
 algorithmCode OnlyOne = 5
 
 unfoldable pub algorithmBy : ℕ → Algorithm
 algorithmBy n =
-    if (eqb n 0) RulesDeny (if (eqb n 1) RulesPermit (if (eqb n 2) First (if (eqb n 3) PoliciesDeny (if (eqb n 4) PoliciesPermit OnlyOne))))
+    if (eqb n 0) First (if (eqb n 1) RulesDeny (if (eqb n 2) RulesPermit (if (eqb n 3) PoliciesDeny (if (eqb n 4) PoliciesPermit OnlyOne))))
 
 abbrev pub functionCode : Function → ℕ
 functionCode Equal = 1

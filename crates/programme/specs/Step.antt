@@ -1,4 +1,4 @@
--- A step, a run and a tick: what document 01 says of "The programme and its ticks". Assumes nothing.
+-- A step: what document 01 says of one in "The programme and its ticks". Assumes nothing.
 use Prim.Native.Nat.{ℕ, zero, suc, _+_, _-_}
 use mathlib.Core.Bool.{Bool, true, false}
 use mathlib.Core.List.{List}
@@ -74,11 +74,23 @@ countBy Deny h = h .denies
 countBy NotApplicable h = 0
 countBy Indeterminate h = 0
 
+-- a step, if it may be taken
+pub record Stepped : Type 0 where
+  pub ok : Bool
+  pub state : State
+
+unfoldable pub steppedOf : List ℕ → Bags → State → Stepped
+steppedOf p g s = record { ok = mayStep p s; state = if (mayStep p s) (stepOf p g s) s }
+
+-- a state from its parts: for functions that have the arrays lent
+abbrev pub stateOf : ℕ → List ℕ → List ℕ → List ℕ → State
+stateOf head frames levels places = record { head = head; frames = frames; levels = levels; places = places }
+
 -- before the first step
 unfoldable pub freshOf : State
 freshOf = record {
   head = packOf (record { at = 0; depth = 0; nest = 0; permits = 0; denies = 0; cut = 0; reg = Permit; ands = True; ors = False; sections = True; over = false });
-  frames = replicate roomF (frameWord (frameOf 2));
+  frames = replicate roomF 0;
   levels = replicate roomL 0;
   places = replicate 1000 0;
 }

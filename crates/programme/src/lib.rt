@@ -5,7 +5,6 @@ use meaning::Decision;
 use meaning::Effect;
 use meaning::Test;
 use meaning::Truth;
-
 // What a condition that is open does with its parts.
 pub enum Op {
     All,
@@ -87,3 +86,26 @@ pub struct State {
     pub levels: [u64; 15],
     pub places: [u16; 1000],
 }
+
+// Whether the step could be taken, and the first number after it.
+pub struct Went {
+    pub ok: bool,
+    pub head: u64,
+}
+
+// step_in, whose proof is on its way, will be:
+// // One step, with the arrays of the state lent. Where it meets entries outside their layout, the state stays as it is.
+// pub fn step_in(
+//     programme: &[u64],
+//     request: &[u8],
+//     head: u64,
+//     frames: &mut [u64; 17],
+//     levels: &mut [u64; 15],
+//     places: &mut [u16; 1000],
+// ) -> Went
+//     requires { ⌜ (length (now programme) ≤ 8008) × (allowed head ≡ true) ⌝ }
+//     ensures { λ r. ⌜ (r .ok ≡ mayStep (now (programme .entry)) (stateOf head (now (frames .entry)) (now (levels .entry)) (now (places .entry))))
+//         × (stateOf (r .head) (now (frames .exit)) (now (levels .exit)) (now (places .exit))
+//             ≡ steppedOf (now (programme .entry)) (bagsOf (now (request .entry)))
+//                 (stateOf head (now (frames .entry)) (now (levels .entry)) (now (places .entry))) .state)
+//         × (allowed (r .head) ≡ true) ⌝ }

@@ -9,8 +9,8 @@ ghost use Prim.Native.Nat.{_+_, _*_, _-_, _<_, _≤_};
 ghost use lib.ListN.{length};
 ghost use Rattle.record.specs.Forest.{forest};
 ghost use Rattle.meaning.specs.Logic.{andAll, orAll};
-ghost use Rattle.meaning.specs.Meaning.{conjunctionOf, sectionOf, targetOf, conditionOf, conditionsOf, under, decisionOf, whenOf, overRules, combine, ruleChildren};
-ghost use Rattle.meaning.specs.Reading.{keyAt, testAt, matchAt, comparisonAt, conjunctionAt, sectionAt, targetIn, conditionAt, conditionsIn, whenIn, effectOf, rulesIn, rulesBy, bagsOf};
+ghost use Rattle.meaning.specs.Meaning.{conjunctionOf, sectionOf, targetOf, conditionOf, conditionsOf, under, decisionOf, whenOf, ruleOf, overRules, combine, ruleChildren};
+ghost use Rattle.meaning.specs.Reading.{testAt, matchAt, comparisonAt, conjunctionAt, sectionAt, targetIn, conditionAt, conditionsIn, whenIn, effectOf, ruleAt, rulesIn, rulesBy, bagsOf};
 
 fn wide(x: usize) -> u32
     requires { ⌜ x < 256 ⌝ }
@@ -45,16 +45,23 @@ pub fn match_at(book: &[u8], i: usize) -> Test
     test_at(book, i, choice)
 }
 
-// The comparison at record i: choice 11 is function 1.
+// The number of a comparison's function: choice 11 is function 1.
+fn compares_by(choice: usize) -> usize
+    ensures { λ r. ⌜ r ≡ choice - 10 ⌝ }
+{
+    if choice < 10 {
+        return 0;
+    }
+    choice - 10
+}
+
+// The comparison at record i.
 pub fn comparison_at(book: &[u8], i: usize) -> Test
     requires { ⌜ (i + 1) * 16 ≤ length (now book) ⌝ }
     ensures { λ r. ⌜ r ≡ comparisonAt (now (book .entry)) i ⌝ }
 {
     let choice = record::byte(book, i, 1);
-    if choice < 10 {
-        return test_at(book, i, 0);
-    }
-    test_at(book, i, choice - 10)
+    test_at(book, i, compares_by(choice))
 }
 
 // And over the matches of the conjunction at record i. Without one it stands for its own match.
@@ -239,16 +246,19 @@ fn judged(t: Truth, d: Decision) -> Decision
     }
 }
 
-// The rule of the effect e with these children.
-fn rule(book: &[u8], request: &[u8], from: usize, count: usize, e: Effect) -> Decision
-    requires { ⌜ (from + count) * 16 ≤ length (now book) ⌝ }
-    ensures { λ r. ⌜ r ≡ under (targetOf (bagsOf (now (request .entry))) (targetIn (now (book .entry)) (forest (now (book .entry)) from count))) (under (whenOf (bagsOf (now (request .entry))) (whenIn (now (book .entry)) (forest (now (book .entry)) from count))) (decisionOf e)) ⌝ }
+// The rule at record i.
+fn rule(book: &[u8], request: &[u8], i: usize, s: usize) -> Decision
+    requires { ⌜ (0 < s) × ((i + s) * 16 ≤ length (now book)) ⌝ }
+    ensures { λ r. ⌜ r ≡ ruleOf (bagsOf (now (request .entry))) (ruleAt (now (book .entry)) i (forest (now (book .entry)) (i + 1) (s - 1))) ⌝ }
 {
-    let t = target(book, request, from, count);
+    let t = target(book, request, i + 1, s - 1);
     match t {
         Truth::False => Decision::NotApplicable,
         Truth::Unknown => Decision::Indeterminate,
-        Truth::True => judged(when(book, request, from, count), decision_of(e)),
+        Truth::True => {
+            let e = effect_of(record::byte(book, i, 1));
+            judged(when(book, request, i + 1, s - 1), decision_of(e))
+        }
     }
 }
 
@@ -283,7 +293,7 @@ pub fn rules(book: &[u8], request: &[u8], from: usize, count: usize, choice: usi
             continue;
         }
         let e = effect_of(record::byte(book, i, 1));
-        let d = rule(book, request, i + 1, s - 1, e);
+        let d = rule(book, request, i, s);
         acc = algorithm::take_in(a, acc, e, d);
         if algorithm::settles(a, acc) {
             return algorithm::outcome(a, acc);

@@ -2,13 +2,13 @@
 use mathlib.Core.Path.{_≡_, refl, sym, ap, _∙_}
 use mathlib.Core.Bool.{Bool, true, false}
 use mathlib.Core.List.{List}
-use Prim.Native.Nat.{ℕ, zero, suc, _+_, _*_, _/_, _%_, _<_, _≤_}
+use Prim.Native.Nat.{ℕ, zero, suc, _*_, _/_, _%_, _≤_}
 use native.Mathlib.Omega.{arith}
 use borrow.Author.Tests.{ltb-false, ne-eqb}
-use lib.Dec.{eqb, ltb}
+use lib.Dec.{ltb}
 use lib.ListN.{length}
 use Rattle.record.specs.Choose.{if}
-use Rattle.record.specs.Refusals.{badLine, tooMany, noRecord, cutShort, noRoom}
+use Rattle.record.specs.Refusals.{tooMany, noRecord, cutShort, noRoom}
 use Rattle.record.specs.declared.Refusal.{Refusal}
 use Rattle.text.specs.Text.{missing, judgeFrom, readOf, readJudged, writeOf}
 use Rattle.text.specs.declared.Kind.{Kind}

@@ -1,9 +1,8 @@
 -- What reading and writing answer, case by case: laws of `specs/Text.antt`'s `readOf` and `writeOf`. Assumes nothing.
-use mathlib.Core.Path.{_≡_, refl}
+use mathlib.Core.Path.{_≡_}
 use mathlib.Core.Bool.{true, false}
 use mathlib.Core.List.{List}
 use Prim.Native.Nat.{ℕ, _*_, _/_, _%_, _<_, _≤_}
-use native.Mathlib.Omega.{arith}
 use borrow.Author.Tests.{lt-ltb, le-ltb}
 use lib.ListN.{length}
 use Rattle.record.specs.Refusals.{badLine, tooMany, noRecord, cutShort, noRoom}

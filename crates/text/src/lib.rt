@@ -4,9 +4,10 @@ ghost use mathlib.Core.Path.{_≡_};
 ghost use mathlib.Core.List.{_++_};
 ghost use Prim.Native.Nat.{_<_, _≤_, _+_, _*_, _/_};
 ghost use lib.ListN.{length, drop};
+ghost use Rattle.record.specs.Bytes.{size};
 ghost use Rattle.text.specs.Hex.{digitOf, isDigit, valueOf, letterOf};
 ghost use Rattle.text.specs.Table.{allBelow, tab};
-ghost use Rattle.text.specs.Text.{book, request, missing, digitAt, goodLine, judgeFrom, byteAt, textAt, readOf, writeOf, outputAfter};
+ghost use Rattle.text.specs.Text.{book, request, missing, digits, lineLength, digitAt, goodLine, judgeFrom, byteAt, textAt, readOf, writeOf, outputAfter};
 
 // The digits of a line, and its bytes: the digits and LF.
 const DIGITS: usize = 32;
@@ -50,12 +51,12 @@ fn missing(kind: Kind, n: usize) -> bool
     n == 0
 }
 
+// What a byte says as a hexadecimal digit.
 pub enum Nibble {
     Value(u8),
     Bad,
 }
 
-// The value of a hexadecimal digit of either case.
 fn digit(c: u8) -> Nibble
     ensures { λ r. ⌜ r ≡ digitOf c ⌝ }
 {
@@ -76,6 +77,7 @@ fn is_digit(c: u8) -> bool
     }
 }
 
+// The value of a digit, and 0 of any other byte.
 fn value(c: u8) -> u8
     ensures { λ r. ⌜ (r ≡ valueOf c) × (r < 16) ⌝ }
 {
@@ -96,9 +98,10 @@ pub fn letter(n: usize) -> u8
     d + 55
 }
 
+// Whether 32 digits stand at this place.
 fn all_digits(text: &[u8], at: usize) -> bool
-    requires { ⌜ at + 32 ≤ length (now text) ⌝ }
-    ensures { λ r. ⌜ r ≡ allBelow (digitAt (now (text .entry)) at) 32 ⌝ }
+    requires { ⌜ at + digits ≤ length (now text) ⌝ }
+    ensures { λ r. ⌜ r ≡ allBelow (digitAt (now (text .entry)) at) digits ⌝ }
 {
     let mut j = 0;
     while j < DIGITS {
@@ -153,16 +156,17 @@ fn judge(text: &[u8], most: usize) -> Judged
 
 // Byte i of the records that the text says.
 fn byte_at(text: &[u8], i: usize) -> u8
-    requires { ⌜ 33 * (i / 16) + 33 ≤ length (now text) ⌝ }
+    requires { ⌜ lineLength * (i / size) + lineLength ≤ length (now text) ⌝ }
     ensures { λ r. ⌜ r ≡ byteAt (now (text .entry)) i ⌝ }
 {
-    let p = LINE * (i / 16) + 2 * (i % 16);
+    let p = LINE * (i / record::SIZE) + 2 * (i % record::SIZE);
     16 * value(text[p]) + value(text[p + 1])
 }
 
+// The records of n lines, into the first places.
 fn decode(text: &[u8], n: usize, out: &mut [u8])
-    requires { ⌜ (33 * n ≤ length (now text)) × (16 * n ≤ length (now out)) ⌝ }
-    ensures { λ _. ⌜ now (out .exit) ≡ tab (byteAt (now (text .entry))) (16 * n) ++ drop (16 * n) (now (out .entry)) ⌝ }
+    requires { ⌜ (lineLength * n ≤ length (now text)) × (size * n ≤ length (now out)) ⌝ }
+    ensures { λ _. ⌜ now (out .exit) ≡ tab (byteAt (now (text .entry))) (size * n) ++ drop (size * n) (now (out .entry)) ⌝ }
 {
     let total = record::SIZE * n;
     let mut i = 0;
@@ -172,6 +176,7 @@ fn decode(text: &[u8], n: usize, out: &mut [u8])
     }
 }
 
+// All lines are judged before the first byte is written.
 fn read_text(text: &[u8], kind: Kind, out: &mut [u8]) -> Filled
     ensures { λ r. ⌜ (r ≡ readOf kind (now (text .entry)) (length (now (out .entry)))) × (now (out .exit) ≡ outputAfter (byteAt (now (text .entry))) r (now (out .entry))) ⌝ }
 {
@@ -194,7 +199,7 @@ fn read_text(text: &[u8], kind: Kind, out: &mut [u8]) -> Filled
 
 // Byte j of the text that the records make.
 fn text_at(records: &[u8], j: usize) -> u8
-    requires { ⌜ 16 * (j / 33) + 16 ≤ length (now records) ⌝ }
+    requires { ⌜ size * (j / lineLength) + size ≤ length (now records) ⌝ }
     ensures { λ r. ⌜ r ≡ textAt (now (records .entry)) j ⌝ }
 {
     let k = j % LINE;
@@ -208,9 +213,10 @@ fn text_at(records: &[u8], j: usize) -> u8
     letter(b)
 }
 
+// The text of n records, into the first places.
 fn encode(records: &[u8], n: usize, out: &mut [u8])
-    requires { ⌜ (16 * n ≤ length (now records)) × (33 * n ≤ length (now out)) ⌝ }
-    ensures { λ _. ⌜ now (out .exit) ≡ tab (textAt (now (records .entry))) (33 * n) ++ drop (33 * n) (now (out .entry)) ⌝ }
+    requires { ⌜ (size * n ≤ length (now records)) × (lineLength * n ≤ length (now out)) ⌝ }
+    ensures { λ _. ⌜ now (out .exit) ≡ tab (textAt (now (records .entry))) (lineLength * n) ++ drop (lineLength * n) (now (out .entry)) ⌝ }
 {
     let total = LINE * n;
     let mut j = 0;
@@ -240,24 +246,28 @@ fn write_text(records: &[u8], kind: Kind, out: &mut [u8]) -> Filled
     Filled::Places(LINE * n)
 }
 
+// Reads the text of a book, and writes its records into `out`.
 pub fn read_book(text: &[u8], out: &mut [u8]) -> Filled
     ensures { λ r. ⌜ (r ≡ readOf book (now (text .entry)) (length (now (out .entry)))) × (now (out .exit) ≡ outputAfter (byteAt (now (text .entry))) r (now (out .entry))) ⌝ }
 {
     read_text(text, BOOK, out)
 }
 
+// Reads the text of a request, and writes its entries into `out`.
 pub fn read_request(text: &[u8], out: &mut [u8]) -> Filled
     ensures { λ r. ⌜ (r ≡ readOf request (now (text .entry)) (length (now (out .entry)))) × (now (out .exit) ≡ outputAfter (byteAt (now (text .entry))) r (now (out .entry))) ⌝ }
 {
     read_text(text, REQUEST, out)
 }
 
+// Writes the records of a book as text into `out`, in capitals.
 pub fn write_book(records: &[u8], out: &mut [u8]) -> Filled
     ensures { λ r. ⌜ (r ≡ writeOf book (now (records .entry)) (length (now (out .entry)))) × (now (out .exit) ≡ outputAfter (textAt (now (records .entry))) r (now (out .entry))) ⌝ }
 {
     write_text(records, BOOK, out)
 }
 
+// Writes the entries of a request as text into `out`, in capitals.
 pub fn write_request(records: &[u8], out: &mut [u8]) -> Filled
     ensures { λ r. ⌜ (r ≡ writeOf request (now (records .entry)) (length (now (out .entry)))) × (now (out .exit) ≡ outputAfter (textAt (now (records .entry))) r (now (out .entry))) ⌝ }
 {

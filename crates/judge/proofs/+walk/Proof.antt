@@ -1,10 +1,10 @@
-use Rattle.judge.proofs.Laws.{span-end, stop-here, bounds, kids, stop-in, rest, go-on, found, found-none}
-use Rattle.judge.specs.Walk.{Walk}
-use Rattle.judge.specs.Place.{placeOk}
-use Rattle.fields.proofs.First.{first-none}
-use Rattle.fields.specs.First.{firstFrom}
-use mathlib.Core.Path.{_≡_, refl, sym, ap, _∙_}
 use Prim.Native.Nat.{_≤_, _+_, _-_}
+use mathlib.Core.Path.{_≡_, refl, _∙_}
+use Rattle.fields.specs.First.{firstFrom}
+use Rattle.fields.proofs.First.{first-none}
+use Rattle.judge.specs.Place.{placeOk}
+use Rattle.judge.specs.Walk.{Walk}
+use Rattle.judge.proofs.Laws.{stop-here, passed, bounds, kids, stop-in, rest, go-on, found, found-none, found-leaf}
 use native.Mathlib.Omega.{arith}
 use borrow.Author.Needs.{needs}
 use Prim.Native.Nat.{ℕ, _<_}
@@ -13,13 +13,13 @@ use borrow.Fn.PlainCycle.{Measures, is, falls, and}
 use Rattle.judge.proofs.walk.Reads as walk
 use Rattle.judge.proofs.walk.Kinds as walk-kinds
 use Rattle.judge.proofs.+walk.Lts-walk as walk-lts
-use Rattle.record.proofs.byte.Reads as byte-reads
 use Rattle.fields.proofs.kind_at.Reads as kind-at-reads
-use Rattle.record.proofs.span.Reads as span-reads
 use Rattle.judge.proofs.child_rule.Reads as child-rule-reads
 use Rattle.judge.proofs.number.Reads as number-reads
 use Rattle.judge.proofs.rank.Reads as rank-reads
 use Rattle.judge.proofs.stands.Reads as stands-reads
+use Rattle.record.proofs.byte.Reads as byte-reads
+use Rattle.record.proofs.span.Reads as span-reads
 use Rattle.judge.proofs.+walk.{statement}
 use Rattle.judge.proofs.+walk.Tie.{close}
 
@@ -41,25 +41,31 @@ abbrev walk-μ-loop : walk-lts.MeasureT-loop
 walk-μ-loop book p top d pn gc pc i₀ er₀ i er = top - i
 
 abbrev walk-calls : ℕ → walk-lts.Claims
-walk-calls t = (kind-at-reads.Asked, kind-at-reads.Learnt, byte-reads.Asked, byte-reads.Learnt, span-reads.Asked, span-reads.Learnt, stands-reads.Asked, stands-reads.Learnt, child-rule-reads.Asked, child-rule-reads.Learnt, number-reads.Asked, number-reads.Learnt, walk-below t, walk.Post, rank-reads.Asked, rank-reads.Learnt)
+walk-calls t = (kind-at-reads.Asked, kind-at-reads.Learnt, byte-reads.Asked, byte-reads.Learnt, span-reads.Asked, span-reads.Learnt, stands-reads.Asked, stands-reads.Learnt, child-rule-reads.Asked, child-rule-reads.Learnt, rank-reads.Asked, rank-reads.Learnt, number-reads.Asked, number-reads.Learnt, walk-below t, walk.Post)
 
 walk-loop-holds : (t : ℕ) → walk-lts.Need-loop-holds (walk-calls t) (walk-at t) walk.Post walk-Inv-loop walk-μ-loop
 walk-loop-holds t c = (omega arith, omega arith, omega arith, c .before .pre .1 .3, refl)
 
 walk-returns : (t : ℕ) → walk-lts.Need-returns (walk-calls t) (walk-at t) walk.Post walk-Inv-loop walk-μ-loop
-walk-returns t c = let l : c .before .before .before .before .before .before .before .loop .i < c .before .before .before .before .before .before .before .before .before .args .top = omega arith in found _ (stop-here _ (c .before .before .before .before .before .before .before .loop .inv .3) l (c .before .before .before .before .before .kind-at .ensures) (c .before .before .before .before .byte .ensures .0) (sym (span-end _ _ _ (c .before .before .before .span .ensures .0))) (c .before .before .stands .ensures) (c .before .child-rule .ensures) (c .if1 .taken)) (c .before .before .before .before .before .before .before .loop .inv .4) (omega arith)
-
-walk-walk-requires : (t : ℕ) → walk-lts.Need-walk-requires (walk-calls t) (walk-at t) walk.Post walk-Inv-loop walk-μ-loop
-walk-walk-requires t c κs = let l : c .before .before .before .before .before .before .before .before .loop .i < c .before .before .before .before .before .before .before .before .before .before .args .top = omega arith in let y = bounds _ (c .before .before .before .before .before .before .before .before .loop .inv .3) l (c .before .before .before .before .before .before .kind-at .ensures) (c .before .before .before .before .before .byte .ensures .0) (sym (span-end _ _ _ (c .before .before .before .before .span .ensures .0))) (c .before .before .before .stands .ensures) (c .before .before .child-rule .ensures) (c .before .if1 .left) in (omega arith, (omega arith, omega arith, omega arith, kids _ (c .before .before .before .before .before .before .before .before .loop .inv .3) l (c .before .before .before .before .before .before .kind-at .ensures) (c .before .before .before .before .before .byte .ensures .0) (sym (span-end _ _ _ (c .before .before .before .before .span .ensures .0))) (c .before .before .before .stands .ensures) (c .before .before .child-rule .ensures) (c .before .if1 .left) (c .number .ensures)))
-
-walk-returns-2 : (t : ℕ) → walk-lts.Need-returns-2 (walk-calls t) (walk-at t) walk.Post walk-Inv-loop walk-μ-loop
-walk-returns-2 t c = let l : c .before .before .before .before .before .before .before .before .before .before .before .loop .i < c .before .before .before .before .before .before .before .before .before .before .before .before .before .args .top = omega arith in found _ (stop-in _ (c .before .before .before .before .before .before .before .before .before .before .before .loop .inv .3) l (c .before .before .before .before .before .before .before .before .before .kind-at .ensures) (c .before .before .before .before .before .before .before .before .byte .ensures .0) (sym (span-end _ _ _ (c .before .before .before .before .before .before .before .span .ensures .0))) (c .before .before .before .before .before .before .stands .ensures) (c .before .before .before .before .before .child-rule .ensures) (c .before .before .before .before .if1 .left) (c .before .before .walk .ensures) (c .if2 .taken)) (c .before .before .before .before .before .before .before .before .before .before .before .loop .inv .4) (omega arith)
+walk-returns t c = found _ (stop-here _ (c .before .before .before .before .before .before .before .loop .inv .3) (c .before .before .before .before .before .before .loop-test .taken) (c .before .before .before .before .before .kind-at .ensures) (c .before .before .before .before .byte .ensures .0) (c .before .before .before .span .ensures .0) (c .before .before .stands .ensures) (c .before .child-rule .ensures) (c .if1 .taken)) (c .before .before .before .before .before .before .before .loop .inv .4) (omega arith)
 
 walk-loop-less : (t : ℕ) → walk-lts.Need-loop-less (walk-calls t) (walk-at t) walk.Post walk-Inv-loop walk-μ-loop
-walk-loop-less t c = let l : c .before .before .before .before .before .before .before .before .before .before .before .before .loop .i < c .before .before .before .before .before .before .before .before .before .before .before .before .before .before .args .top = omega arith in let y = bounds _ (c .before .before .before .before .before .before .before .before .before .before .before .before .loop .inv .3) l (c .before .before .before .before .before .before .before .before .before .before .kind-at .ensures) (c .before .before .before .before .before .before .before .before .before .byte .ensures .0) (sym (span-end _ _ _ (c .before .before .before .before .before .before .before .before .span .ensures .0))) (c .before .before .before .before .before .before .before .stands .ensures) (c .before .before .before .before .before .before .child-rule .ensures) (c .before .before .before .before .before .if1 .left) in omega arith
+walk-loop-less t c = let h = passed _ (c .before .before .before .before .before .before .before .before .before .loop .inv .3) (c .before .before .before .before .before .before .before .before .loop-test .taken) (c .before .before .before .before .before .before .before .kind-at .ensures) (c .before .before .before .before .before .before .byte .ensures .0) (c .before .before .before .before .before .span .ensures .0) (c .before .before .before .before .stands .ensures) (c .before .before .before .child-rule .ensures) (c .before .before .if1 .left) in let y = bounds _ h in omega arith
 
 walk-loop-again : (t : ℕ) → walk-lts.Need-loop-again (walk-calls t) (walk-at t) walk.Post walk-Inv-loop walk-μ-loop
-walk-loop-again t c = let l : c .before .before .before .before .before .before .before .before .before .before .before .before .loop .i < c .before .before .before .before .before .before .before .before .before .before .before .before .before .before .args .top = omega arith in let y = bounds _ (c .before .before .before .before .before .before .before .before .before .before .before .before .loop .inv .3) l (c .before .before .before .before .before .before .before .before .before .before .kind-at .ensures) (c .before .before .before .before .before .before .before .before .before .byte .ensures .0) (sym (span-end _ _ _ (c .before .before .before .before .before .before .before .before .span .ensures .0))) (c .before .before .before .before .before .before .before .stands .ensures) (c .before .before .before .before .before .before .child-rule .ensures) (c .before .before .before .before .before .if1 .left) in (omega arith, omega arith, omega arith, rest _ (c .before .before .before .before .before .before .before .before .before .before .before .before .loop .inv .3) l (c .before .before .before .before .before .before .before .before .before .before .kind-at .ensures) (c .before .before .before .before .before .before .before .before .before .byte .ensures .0) (sym (span-end _ _ _ (c .before .before .before .before .before .before .before .before .span .ensures .0))) (c .before .before .before .before .before .before .before .stands .ensures) (c .before .before .before .before .before .before .child-rule .ensures) (c .before .before .before .before .before .if1 .left) (c .before .before .before .walk .ensures) (c .before .if2 .left) (c .rank .ensures .0), c .before .before .before .before .before .before .before .before .before .before .before .before .loop .inv .4 ∙ sym (go-on _ (c .before .before .before .before .before .before .before .before .before .before .before .before .loop .inv .3) l (c .before .before .before .before .before .before .before .before .before .before .kind-at .ensures) (c .before .before .before .before .before .before .before .before .before .byte .ensures .0) (sym (span-end _ _ _ (c .before .before .before .before .before .before .before .before .span .ensures .0))) (c .before .before .before .before .before .before .before .stands .ensures) (c .before .before .before .before .before .before .child-rule .ensures) (c .before .before .before .before .before .if1 .left) (c .before .before .before .walk .ensures) (c .before .if2 .left) refl))
+walk-loop-again t c = let h = passed _ (c .before .before .before .before .before .before .before .before .before .loop .inv .3) (c .before .before .before .before .before .before .before .before .loop-test .taken) (c .before .before .before .before .before .before .before .kind-at .ensures) (c .before .before .before .before .before .before .byte .ensures .0) (c .before .before .before .before .before .span .ensures .0) (c .before .before .before .before .stands .ensures) (c .before .before .before .child-rule .ensures) (c .before .before .if1 .left) in let y = bounds _ h in let f = found-leaf (c .before .before .before .before .before .before .before .before .before .before .before .args .book .now) (c .before .before .before .before .before .before .before .before .before .loop .i) (c .if2 .taken) in (omega arith, omega arith, omega arith, rest _ h f (omega arith) (c .before .rank .ensures .0), go-on _ h f (omega arith) (c .before .before .before .before .before .before .before .before .before .loop .inv .4))
+
+walk-walk-requires : (t : ℕ) → walk-lts.Need-walk-requires (walk-calls t) (walk-at t) walk.Post walk-Inv-loop walk-μ-loop
+walk-walk-requires t c κs = let h = passed _ (c .before .before .before .before .before .before .before .before .before .before .loop .inv .3) (c .before .before .before .before .before .before .before .before .before .loop-test .taken) (c .before .before .before .before .before .before .before .before .kind-at .ensures) (c .before .before .before .before .before .before .before .byte .ensures .0) (c .before .before .before .before .before .before .span .ensures .0) (c .before .before .before .before .before .stands .ensures) (c .before .before .before .before .child-rule .ensures) (c .before .before .before .if1 .left) in let y = bounds _ h in (omega arith, (omega arith, omega arith, omega arith, kids _ h (c .number .ensures)))
+
+walk-returns-2 : (t : ℕ) → walk-lts.Need-returns-2 (walk-calls t) (walk-at t) walk.Post walk-Inv-loop walk-μ-loop
+walk-returns-2 t c = let h = passed _ (c .before .before .before .before .before .before .before .before .before .before .before .before .before .loop .inv .3) (c .before .before .before .before .before .before .before .before .before .before .before .before .loop-test .taken) (c .before .before .before .before .before .before .before .before .before .before .before .kind-at .ensures) (c .before .before .before .before .before .before .before .before .before .before .byte .ensures .0) (c .before .before .before .before .before .before .before .before .before .span .ensures .0) (c .before .before .before .before .before .before .before .before .stands .ensures) (c .before .before .before .before .before .before .before .child-rule .ensures) (c .before .before .before .before .before .before .if1 .left) in found _ (stop-in _ h (c .before .before .walk .ensures) (c .if3 .taken)) (c .before .before .before .before .before .before .before .before .before .before .before .before .before .loop .inv .4) (omega arith)
+
+walk-loop-less-2 : (t : ℕ) → walk-lts.Need-loop-less-2 (walk-calls t) (walk-at t) walk.Post walk-Inv-loop walk-μ-loop
+walk-loop-less-2 t c = let h = passed _ (c .before .before .before .before .before .before .before .before .before .before .before .before .before .loop .inv .3) (c .before .before .before .before .before .before .before .before .before .before .before .before .loop-test .taken) (c .before .before .before .before .before .before .before .before .before .before .before .kind-at .ensures) (c .before .before .before .before .before .before .before .before .before .before .byte .ensures .0) (c .before .before .before .before .before .before .before .before .before .span .ensures .0) (c .before .before .before .before .before .before .before .before .stands .ensures) (c .before .before .before .before .before .before .before .child-rule .ensures) (c .before .before .before .before .before .before .if1 .left) in let y = bounds _ h in omega arith
+
+walk-loop-again-2 : (t : ℕ) → walk-lts.Need-loop-again-2 (walk-calls t) (walk-at t) walk.Post walk-Inv-loop walk-μ-loop
+walk-loop-again-2 t c = let h = passed _ (c .before .before .before .before .before .before .before .before .before .before .before .before .before .loop .inv .3) (c .before .before .before .before .before .before .before .before .before .before .before .before .loop-test .taken) (c .before .before .before .before .before .before .before .before .before .before .before .kind-at .ensures) (c .before .before .before .before .before .before .before .before .before .before .byte .ensures .0) (c .before .before .before .before .before .before .before .before .before .span .ensures .0) (c .before .before .before .before .before .before .before .before .stands .ensures) (c .before .before .before .before .before .before .before .child-rule .ensures) (c .before .before .before .before .before .before .if1 .left) in let y = bounds _ h in (omega arith, omega arith, omega arith, rest _ h (c .before .before .walk .ensures) (c .if3 .left) (c .before .before .before .before .before .rank .ensures .0), go-on _ h (c .before .before .walk .ensures) (c .if3 .left) (c .before .before .before .before .before .before .before .before .before .before .before .before .before .loop .inv .4))
 
 walk-returns-3 : (t : ℕ) → walk-lts.Need-returns-3 (walk-calls t) (walk-at t) walk.Post walk-Inv-loop walk-μ-loop
 walk-returns-3 t c = let e : c .before .loop .i ≡ c .before .before .before .args .top = omega arith in found-none _ (c .before .loop .inv .4 ∙ first-none (placeOk (c .before .before .before .args .book .now)) (c .before .loop .i) (c .before .before .before .args .top - c .before .loop .i) (omega arith) ∙ e) (omega arith)
@@ -79,11 +85,14 @@ pub +walk-spec : {M : Type 1} → statement M
     (λ c κs. search needs)
     (λ c κs. search needs)
     (walk-returns t)
+    (λ c κs. search needs)
+    (λ c. search needs)
+    (walk-loop-less t)
+    (walk-loop-again t)
     (λ c. search needs)
     (λ c κs. search needs)
     (walk-walk-requires t)
     (walk-returns-2 t)
-    (λ c κs. search needs)
-    (walk-loop-less t)
-    (walk-loop-again t)
+    (walk-loop-less-2 t)
+    (walk-loop-again-2 t)
     (walk-returns-3 t)

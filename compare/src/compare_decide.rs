@@ -1,0 +1,96 @@
+//! The comparison of deciding, through the C host.
+
+use crate::books;
+use crate::damage;
+use crate::decide;
+use crate::judge::refusals_of;
+use crate::lent::Lent;
+use crate::paper;
+use crate::random::Random;
+use crate::record::{book_bytes, request_bytes, Record, OBLIGATION};
+use crate::refusal::Part;
+use crate::requests;
+use crate::run::{hex, Difference};
+use crate::subject::Host;
+use crate::tally::{numbers, words, Tally, Wanted};
+use crate::text;
+
+const ROOMS: [&str; 5] = ["exact", "one longer", "longer", "one short", "none"];
+
+pub fn wanted() -> Wanted {
+    let mut wanted = decide::wanted();
+    wanted.extend([
+        (refusals_of(Part::Book), numbers([2, 3, 4, 5, 6])),
+        (refusals_of(Part::Request), numbers([2, 4, 5])),
+        (refusals_of(Part::Output), numbers([7])),
+        ("room", words(&ROOMS)),
+    ]);
+    wanted
+}
+
+/// Decides one generated book on one request.
+pub fn case(host: &dyn Host, random: &mut Random, tally: &mut Tally) -> Result<(), Difference> {
+    let records = books::book(random);
+    let entries = requests::request(random, &records);
+    let obligations = records.iter().filter(|record: &&Record| record.kind() == OBLIGATION).count();
+    let out = room(random, 2 * obligations, tally);
+    let book = if random.chance(6) { damage::book(random, records) } else { book_bytes(&records) };
+    let request = if random.chance(6) { damage::request(random, entries) } else { request_bytes(&entries) };
+    check(host, &book, &request, &out, tally)
+}
+
+/// An output of some length with some content.
+fn room(random: &mut Random, needed: usize, tally: &mut Tally) -> Vec<u8> {
+    let how = if random.chance(90) { random.below(3) } else { random.between(3, 4) };
+    tally.met("room", ROOMS[how]);
+    let length = match how {
+        0 => needed,
+        1 => needed + 1,
+        2 => needed + random.between(2, 30),
+        3 => needed.saturating_sub(1),
+        _ => 0,
+    };
+    random.bytes(length)
+}
+
+/// Calls both sides and compares the answers and the whole buffers.
+fn check(host: &dyn Host, book: &[u8], request: &[u8], out: &[u8], tally: &mut Tally) -> Result<(), Difference> {
+    let mut expected_out = out.to_vec();
+    let expected = decide::host_call(book, request, &mut expected_out, tally);
+    let (lent_book, lent_request, mut lent_out) = (Lent::new(book), Lent::new(request), Lent::new(out));
+    let got = host.decide(lent_book.part(), lent_request.part(), lent_out.part_mut());
+    if got == expected && lent_out.holds(&expected_out) && lent_book.holds(book) && lent_request.holds(request) {
+        return Ok(());
+    }
+    Err(format!(
+        " book {}\n request {}\n output before {}\n expected {expected:#x} {}\n got {got:#x} {}",
+        hex(book),
+        hex(request),
+        hex(out),
+        hex(&expected_out),
+        hex(lent_out.part()),
+    ))
+}
+
+/// Document 01's P1 to P11, against the answers that it states.
+pub fn check_paper(host: &dyn Host) -> Result<(), Difference> {
+    for example in paper::examples() {
+        let book = bytes_of(Part::Book, &example.book);
+        let request = bytes_of(Part::Request, &example.request);
+        let mut out = vec![0xA5; 8];
+        let got = host.decide(&book, &request, &mut out);
+        let mut expected_out: Vec<u8> = example.obligations.iter().flat_map(|number| number.to_be_bytes()).collect();
+        expected_out.resize(out.len(), 0);
+        if got != example.answer || out != expected_out {
+            return Err(format!(" {}: expected {:#x}, got {got:#x} {}", example.name, example.answer, hex(&out)));
+        }
+    }
+    Ok(())
+}
+
+/// The record bytes of a text that is right.
+pub fn bytes_of(part: Part, lines: &str) -> Vec<u8> {
+    let mut bytes = vec![0; lines.lines().count() * 16];
+    text::read(part, lines.as_bytes(), &mut bytes).expect("the text is right");
+    bytes
+}

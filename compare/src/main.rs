@@ -1,0 +1,121 @@
+//! An independent evaluator of Bachumoi's books, written from document 01, and its comparisons with
+//! the proved libraries.
+
+mod bench;
+mod books;
+mod compare_damaged;
+mod compare_decide;
+mod compare_judge;
+mod compare_text;
+mod compare_ticks;
+mod damage;
+mod decide;
+mod judge;
+mod lent;
+mod linked;
+mod paper;
+mod policy;
+mod random;
+mod record;
+mod refusal;
+mod requests;
+mod rig;
+mod run;
+mod subject;
+mod tally;
+#[cfg(test)]
+mod tests;
+mod text;
+mod truth;
+
+use bench::Machine;
+use run::{compare, Cases, Difference};
+use std::process::ExitCode;
+
+const USAGE: &str = "usage: compare NAME COUNT [SEED [FIRST]]
+       compare linked
+
+Runs COUNT generated cases against the static library that they are about, from case FIRST (0) of
+SEED (by the clock). NAME is
+  text     reading and writing             (library probe)
+  judge    judging books and requests      (library probe)
+  decide   deciding through the C host     (library host)
+  ticks    translating and running         (library rig; host too, if it is there)
+  damaged  damaged programmes and states   (library rig)
+`compare linked` prints the names whose library was there when this was built.";
+
+fn main() -> ExitCode {
+    let words: Vec<String> = std::env::args().skip(1).collect();
+    let numbers: Option<Vec<u64>> = words.iter().skip(1).map(|word| word.parse().ok()).collect();
+    let result = match (words.first().map(String::as_str), numbers.as_deref()) {
+        (Some("linked"), Some([])) => {
+            print_linked();
+            Ok(true)
+        }
+        (Some(name), Some([count, rest @ ..])) if rest.len() <= 2 => {
+            let seed = rest.first().copied().unwrap_or_else(run::seed_of_now);
+            let first = rest.get(1).copied().unwrap_or(0);
+            run_named(name, Cases { seed, first, count: *count })
+        }
+        _ => Err(USAGE.to_string()),
+    };
+    match result {
+        Ok(true) => ExitCode::SUCCESS,
+        Ok(false) => ExitCode::FAILURE,
+        Err(message) => {
+            eprintln!("{message}");
+            ExitCode::from(2)
+        }
+    }
+}
+
+fn print_linked() {
+    let rig = rig::rig().is_some();
+    let names = [
+        ("text", linked::texts().is_some()),
+        ("judge", linked::judge().is_some()),
+        ("decide", linked::host().is_some()),
+        ("ticks", rig),
+        ("damaged", rig),
+    ];
+    for (name, _) in names.iter().filter(|(_, is_linked)| *is_linked) {
+        println!("{name}");
+    }
+}
+
+/// Runs a comparison: whether nothing differs and all was met.
+fn run_named(name: &str, cases: Cases) -> Result<bool, String> {
+    let missing = || format!("{name}: its library was not there when this was built");
+    match name {
+        "text" => {
+            let library = linked::texts().ok_or_else(missing)?;
+            paper_holds(name, compare_text::check_paper(library))?;
+            Ok(compare(name, cases, &compare_text::wanted(), |random, tally| compare_text::case(library, random, tally)))
+        }
+        "judge" => {
+            let library = linked::judge().ok_or_else(missing)?;
+            paper_holds(name, compare_judge::check_paper(library))?;
+            Ok(compare(name, cases, &compare_judge::wanted(), |random, tally| compare_judge::case(library, random, tally)))
+        }
+        "decide" => {
+            let host = linked::host().ok_or_else(missing)?;
+            paper_holds(name, compare_decide::check_paper(host))?;
+            Ok(compare(name, cases, &compare_decide::wanted(), |random, tally| compare_decide::case(host, random, tally)))
+        }
+        "ticks" => {
+            let machine = Machine::new(rig::rig().ok_or_else(missing)?, linked::host())?;
+            paper_holds(name, compare_ticks::check_paper(&machine))?;
+            Ok(compare(name, cases, &compare_ticks::wanted(), |random, tally| compare_ticks::case(&machine, random, tally)))
+        }
+        "damaged" => {
+            let machine = Machine::new(rig::rig().ok_or_else(missing)?, None)?;
+            Ok(compare(name, cases, &compare_damaged::wanted(), |random, tally| compare_damaged::case(&machine, random, tally)))
+        }
+        _ => Err(USAGE.to_string()),
+    }
+}
+
+/// Document 01's own examples hold.
+fn paper_holds(name: &str, result: Result<(), Difference>) -> Result<(), String> {
+    result.map_err(|difference| format!("{name}: an example of document 01 differs\n{difference}"))
+}

@@ -1,0 +1,358 @@
+//! The evaluator against document 01's own examples, and the comparisons against stand-ins for the
+//! libraries: the evaluator itself must pass, and one with a planted error must be found out.
+
+use crate::bench::Machine;
+use crate::books;
+use crate::compare_damaged;
+use crate::compare_decide::{self, bytes_of};
+use crate::compare_judge;
+use crate::compare_text;
+use crate::compare_ticks;
+use crate::decide;
+use crate::judge;
+use crate::paper;
+use crate::random::Random;
+use crate::record::book_bytes;
+use crate::refusal::{refuse, too_short, Part};
+use crate::rig::unpack;
+use crate::run::{compare, Cases};
+use crate::subject::{Field, Host, Judge, Rig, Texts, Tick, TickAnswer};
+use crate::tally::Tally;
+use crate::text;
+
+// Document 01's examples
+
+#[test]
+fn examples_of_document_01() {
+    assert_eq!(compare_decide::check_paper(&Model(Plan::Right)), Ok(()));
+    assert_eq!(compare_judge::check_paper(&Model(Plan::Right)), Ok(()));
+    assert_eq!(compare_text::check_paper(&Model(Plan::Right)), Ok(()));
+}
+
+#[test]
+fn book_a_is_read_and_written_again() {
+    let bytes = bytes_of(Part::Book, paper::A);
+    let mut again = vec![0; 6 * 33];
+    assert_eq!(text::write(Part::Book, &bytes, &mut again), Ok(6 * 33));
+    assert_eq!(again, paper::A.as_bytes());
+    let small = paper::A.to_lowercase();
+    assert_eq!(bytes_of(Part::Book, &small), bytes);
+}
+
+#[test]
+fn refusals_of_texts_come_in_order() {
+    let read = |part, text: &str, room| text::read(part, text.as_bytes(), &mut vec![0; room]).unwrap_err().packed();
+    let line = "00112233445566778899AABBCCDDEEFF\n";
+    assert_eq!(read(Part::Book, "", 0), 255 + 256 * 3 + (1 << 32));
+    assert_eq!(text::read(Part::Request, b"", &mut []), Ok(0));
+    assert_eq!(read(Part::Book, &line[..32], 16), 255 + 256 + 65_536 + (1 << 32));
+    assert_eq!(read(Part::Book, &line.repeat(1000), 15_999), 255 + 256 * 7 + (3 << 32));
+    assert_eq!(read(Part::Book, &(line.repeat(1000) + "x"), 16_000), 255 + 256 * 2 + (1 << 32));
+    assert_eq!(read(Part::Request, &(line.repeat(64) + "x"), 16_000), 255 + 256 * 2 + (2 << 32));
+    assert_eq!(read(Part::Book, &(line.repeat(999) + "\n" + line), 0), 255 + 256 + 65_536 * 1000 + (1 << 32));
+}
+
+#[test]
+fn refusals_of_record_bytes_come_in_order() {
+    let number = |bytes: &[u8]| judge::book(bytes).unwrap_err().refusal.number;
+    assert_eq!(number(&[]), 3);
+    assert_eq!(number(&[0; 16_001]), 4);
+    assert_eq!(number(&[0; 16_016]), 2);
+    let mut book = bytes_of(Part::Book, paper::A);
+    book[3] = 5; // line 1 breaks a place rule
+    assert_eq!(judge::book(&book).unwrap_err().refusal.packed(), 255 + 256 * 6 + 65_536 + (1 << 32));
+    book[5 * 16] = 9; // and line 6 a field rule
+    assert_eq!(judge::book(&book).unwrap_err().refusal.packed(), 255 + 256 * 5 + 65_536 * 6 + (1 << 32));
+}
+
+#[test]
+fn generated_books_are_sound() {
+    for case in 0..3000 {
+        let mut random = Random::of_case(7, case);
+        let book = books::book(&mut random);
+        judge::book(&book_bytes(&book)).expect("a generated book is sound");
+    }
+}
+
+#[test]
+fn ticks_are_unpacked() {
+    assert_eq!(unpack(7 << 32), Tick { answer: TickAnswer::Running, steps: 7 });
+    assert_eq!(unpack(1 << 32 | 2 + 256 * 3), Tick { answer: TickAnswer::Finished { decision: 2, count: 3 }, steps: 1 });
+    let refusal = refuse(8, Part::Programme);
+    assert_eq!(unpack(refusal.packed()), Tick { answer: TickAnswer::Refused(refusal), steps: 0 });
+}
+
+// The comparisons
+
+/// How a stand-in behaves.
+#[derive(Clone, Copy, PartialEq, Eq, Debug)]
+enum Plan {
+    Right,
+    SmallLetter,
+    OneBeforeTwo,
+    WrittenBeforeJudged,
+    LastLineFeedNotAsked,
+    SixBeforeFive,
+    DepthNotJudged,
+    CountWrong,
+    OddByteKept,
+    OrderOfObligations,
+    OutputTouchedWhileRunning,
+    StateLostOnRefusal,
+    ExtraStep,
+    EndNotKept,
+    AnswerTooEarly,
+    BudgetNotUsed,
+}
+
+struct Model(Plan);
+
+impl Texts for Model {
+    fn read(&self, part: Part, text: &[u8], out: &mut [u8]) -> u64 {
+        let mut text = text.to_vec();
+        let most = text::most_lines(part) * 33;
+        match self.0 {
+            Plan::OneBeforeTwo if text.len() > most && text.len() % 33 != 0 => {
+                return text::read(part, &text, &mut vec![0; 40_000]).unwrap_err().packed() - 256
+            }
+            Plan::WrittenBeforeJudged if !out.is_empty() && !text.is_empty() => out[0] = 1,
+            Plan::LastLineFeedNotAsked if text.len() % 33 == 32 => text.push(b'\n'),
+            _ => {}
+        }
+        text::read(part, &text, out).map_or_else(|refusal| refusal.packed(), |filled| 256 * filled as u64)
+    }
+
+    fn write(&self, part: Part, bytes: &[u8], out: &mut [u8]) -> u64 {
+        let result = text::write(part, bytes, out);
+        if let (Ok(filled), Plan::SmallLetter) = (result, self.0) {
+            out[..filled].make_ascii_lowercase();
+        }
+        result.map_or_else(|refusal| refusal.packed(), |filled| 256 * filled as u64)
+    }
+}
+
+impl Judge for Model {
+    fn judge_book(&self, book: &[u8]) -> u64 {
+        match judge::book(book) {
+            Ok(accepted) => 256 * accepted.records as u64 + 16_777_216 * accepted.obligations as u64,
+            Err(refused) if self.0 == Plan::SixBeforeFive && refused.refusal.number == 5 && book[3] == 1 && book.len() > 16 => {
+                255 + 256 * 6 + 65_536 + (1 << 32)
+            }
+            Err(refused) if self.0 == Plan::DepthNotJudged && refused.causes.iter().any(|cause| cause.0 == "place: too deep") => 0,
+            Err(refused) => refused.refusal.packed(),
+        }
+    }
+
+    fn judge_request(&self, request: &[u8]) -> u64 {
+        let extra = u64::from(self.0 == Plan::CountWrong && request.len() == 16 * 64);
+        judge::request(request).map_or_else(|refused| refused.refusal.packed(), |entries| 256 * (entries as u64 - extra))
+    }
+}
+
+impl Host for Model {
+    fn decide(&self, book: &[u8], request: &[u8], out: &mut [u8]) -> u64 {
+        let last = out.last().copied();
+        let answer = decide::host_call(book, request, out, &mut Tally::default());
+        match self.0 {
+            Plan::OddByteKept if answer % 256 != 255 && out.len() % 2 == 1 => out[out.len() - 1] = last.unwrap(),
+            Plan::OrderOfObligations if answer % 256 != 255 && answer > 511 => out[..4].rotate_left(2),
+            _ => {}
+        }
+        answer
+    }
+}
+
+/// A stand-in for the rig. Its programme is the number of records, two entries a record and two
+/// more; a step puts one obligation into its place, and the last step finishes. A damaged programme
+/// meets 8 after 0, 1 or 2 steps.
+impl Rig for Model {
+    fn translate(&self, book: &[u8], programme: &mut [u64]) -> u64 {
+        match judge::book(book) {
+            Err(refused) => refused.refusal.packed(),
+            Ok(accepted) if programme.len() < 8 * accepted.records + 8 => too_short().packed(),
+            Ok(accepted) => {
+                programme[0] = accepted.records as u64;
+                for (entry, bytes) in programme[1..].iter_mut().zip(book.chunks(8)) {
+                    *entry = u64::from_be_bytes(bytes.try_into().unwrap());
+                }
+                256 * (2 * accepted.records as u64 + 1)
+            }
+        }
+    }
+
+    fn fresh(&self, state: &mut [u64]) -> u64 {
+        if state.len() < 1 + 1000 {
+            return too_short().packed();
+        }
+        state[..1001].fill(0);
+        0
+    }
+
+    fn tick(&self, programme: &[u64], request: &[u8], state: &mut [u64], budget: u64, out: &mut [u16]) -> Tick {
+        let refused = |refusal| Tick { answer: TickAnswer::Refused(refusal), steps: 0 };
+        if let Err(fault) = judge::request(request) {
+            return refused(fault.refusal);
+        }
+        if out.len() < 1000 {
+            return refused(too_short());
+        }
+        let first = First::of(state[0]);
+        let allowed = first.number() == state[0] && first.place <= 1000 && state[1..].iter().all(|&place| place < 65_536);
+        let decision = first.decision;
+        if programme.is_empty() || programme.len() > 8008 || !allowed || decision > 4 || first.count > first.place {
+            if self.0 == Plan::StateLostOnRefusal {
+                state[0] = 0;
+            }
+            return refused(refuse(8, Part::Programme));
+        }
+        self.run(programme, request, state, budget, out)
+    }
+
+    fn fields(&self) -> &'static [Field] {
+        &[
+            Field { number: 0, low: 0, width: 16, most: 1000 },
+            Field { number: 0, low: 16, width: 16, most: 4 },
+            Field { number: 0, low: 32, width: 16, most: 1000 },
+        ]
+    }
+}
+
+/// The first number of the stand-in's state: the obligations put down, the decision once finished,
+/// and the number of obligations.
+struct First {
+    place: u64,
+    decision: u64,
+    count: u64,
+}
+
+impl First {
+    fn of(number: u64) -> First {
+        First { place: number & 0xFFFF, decision: number >> 16 & 0xFFFF, count: number >> 32 & 0xFFFF }
+    }
+
+    fn number(&self) -> u64 {
+        self.place | self.decision << 16 | self.count << 32
+    }
+}
+
+impl Model {
+    fn run(&self, programme: &[u64], request: &[u8], state: &mut [u64], budget: u64, out: &mut [u16]) -> Tick {
+        let before = state.to_vec();
+        let book: Vec<u8> = programme[1..].iter().flat_map(|entry| entry.to_be_bytes()).collect();
+        let mut steps = 0;
+        if self.0 == Plan::OutputTouchedWhileRunning && budget == 1 {
+            out[999] = 77;
+        }
+        while steps < budget && First::of(state[0]).decision == 0 {
+            let first = First::of(state[0]);
+            steps += 1;
+            if judge::book(&book).is_err() || book.len() as u64 / 16 != programme[0] {
+                if first.place < programme.len() as u64 % 3 {
+                    state[0] += 1;
+                    continue;
+                }
+                state.copy_from_slice(&before);
+                return Tick { answer: TickAnswer::Refused(refuse(8, Part::Programme)), steps: 0 };
+            }
+            let (answer, _) = decide::decide(&book, request, &mut Tally::default());
+            match answer.obligations.get(first.place as usize) {
+                Some(&number) => {
+                    state[1 + first.place as usize] = number.into();
+                    state[0] += 1;
+                }
+                None => {
+                    let count = answer.obligations.len() as u64;
+                    state[0] = First { decision: answer.decision as u64, count, place: first.place }.number();
+                }
+            }
+            if self.0 == Plan::BudgetNotUsed && steps == 2 {
+                break;
+            }
+        }
+        let first = First::of(state[0]);
+        let early = self.0 == Plan::AnswerTooEarly && steps == budget && budget > 1;
+        if first.decision == 0 && !early {
+            return Tick { answer: TickAnswer::Running, steps };
+        }
+        out.fill(0);
+        for (place, &number) in out.iter_mut().zip(&state[1..1 + first.count as usize]) {
+            *place = number as u16;
+        }
+        let late = self.0 == Plan::EndNotKept && steps == 0;
+        let decision = if late { 4 } else { first.decision.max(1) };
+        let steps = if self.0 == Plan::ExtraStep && steps > 0 { (steps + 1).min(budget) } else { steps };
+        Tick { answer: TickAnswer::Finished { decision, count: first.count as usize }, steps }
+    }
+}
+
+fn cases(count: u64) -> Cases {
+    Cases { seed: 20, first: 0, count }
+}
+
+fn text_agrees(plan: Plan, count: u64) -> bool {
+    let model = Model(plan);
+    compare("text", cases(count), &compare_text::wanted(), |random, tally| compare_text::case(&model, random, tally))
+}
+
+fn judge_agrees(plan: Plan, count: u64) -> bool {
+    let model = Model(plan);
+    compare("judge", cases(count), &compare_judge::wanted(), |random, tally| compare_judge::case(&model, random, tally))
+}
+
+fn decide_agrees(plan: Plan, count: u64) -> bool {
+    let model = Model(plan);
+    compare("decide", cases(count), &compare_decide::wanted(), |random, tally| compare_decide::case(&model, random, tally))
+}
+
+fn ticks_agree(plan: Plan, count: u64) -> bool {
+    let model = Model(plan);
+    let machine = Machine::new(&model, Some(&model)).expect("a state has a length");
+    compare_ticks::check_paper(&machine).is_ok()
+        && compare("ticks", cases(count), &compare_ticks::wanted(), |random, tally| compare_ticks::case(&machine, random, tally))
+}
+
+fn damaged_agree(plan: Plan, count: u64) -> bool {
+    let model = Model(plan);
+    let machine = Machine::new(&model, None).expect("a state has a length");
+    compare("damaged", cases(count), &compare_damaged::wanted(), |random, tally| {
+        compare_damaged::case(&machine, random, tally)
+    })
+}
+
+#[test]
+fn text_comparison() {
+    assert!(text_agrees(Plan::Right, 20_000));
+    for plan in [Plan::SmallLetter, Plan::OneBeforeTwo, Plan::WrittenBeforeJudged, Plan::LastLineFeedNotAsked] {
+        assert!(!text_agrees(plan, 20_000), "{plan:?}");
+    }
+}
+
+#[test]
+fn judge_comparison() {
+    assert!(judge_agrees(Plan::Right, 100_000));
+    for plan in [Plan::SixBeforeFive, Plan::DepthNotJudged, Plan::CountWrong] {
+        assert!(!judge_agrees(plan, 100_000), "{plan:?}");
+    }
+}
+
+#[test]
+fn decide_comparison() {
+    assert!(decide_agrees(Plan::Right, 50_000));
+    for plan in [Plan::OddByteKept, Plan::OrderOfObligations] {
+        assert!(!decide_agrees(plan, 50_000), "{plan:?}");
+    }
+}
+
+#[test]
+fn ticks_comparison() {
+    assert!(ticks_agree(Plan::Right, 4_000));
+    for plan in [Plan::OutputTouchedWhileRunning, Plan::ExtraStep, Plan::EndNotKept, Plan::AnswerTooEarly, Plan::BudgetNotUsed] {
+        assert!(!ticks_agree(plan, 4_000), "{plan:?}");
+    }
+}
+
+#[test]
+fn damaged_comparison() {
+    assert!(damaged_agree(Plan::Right, 4_000));
+    assert!(!damaged_agree(Plan::StateLostOnRefusal, 4_000));
+}

@@ -1,0 +1,114 @@
+-- Laws of the stack in lent places. Assumes nothing.
+use mathlib.Core.Path.{_≡_, refl, sym, ap, _∙_}
+use mathlib.Core.Bool.{Bool, true, false}
+use mathlib.Core.List.{List, [], _∷_, _++_, append-nil, append-assoc}
+use Prim.Native.Nat.{ℕ, zero, suc, _+_, _-_, _≤_, _<_}
+use native.Mathlib.Omega.{arith}
+use native.Mathlib.Numerals.{add-one}
+use native.Mathlib.Nat.{sub-zero}
+use lib.ListN.{length, take, drop, set, getD, replicate, length-append, length-drop, length-set, length-replicate, take-append-drop, replicate-append-replicate}
+use lib.Seq.{take-take, take-at, drop-at, take-add, drop-drop, take-suc-set, length-take-le, getD-drop, drop-cons, set-at, paste, paste-zero, paste-suc, take-paste, drop-paste, length-paste, take-length, drop-length, take-set-le, append-snoc}
+use Rattle.record.specs.Choose.{if}
+use Rattle.decider.specs.Places.{Holds, between}
+
+pub holds-none : (l : List ℕ) (n : ℕ) → Holds l n [] l n
+holds-none l n = record { front = sym (append-nil (take n l)); count = omega arith }
+
+-- one on top of another
+pub holds-both : {l e f : List ℕ} {n m r : ℕ} {xs ys : List ℕ} → Holds l n xs e m → Holds e m ys f r → Holds l n (xs ++ ys) f r
+holds-both {l} {n = n} {xs = xs} {ys = ys} p q =
+    record {
+      front = q .front ∙ ap (λ z. z ++ ys) (p .front) ∙ append-assoc (take n l) xs ys;
+      count = omega (arith, p .count, q .count, length-append xs ys);
+    }
+
+-- a store on top
+pub holds-store : {l e : List ℕ} {n m : ℕ} {xs : List ℕ} (x : ℕ) → Holds l n xs e m → m < length e → Holds l n (xs ++ (x ∷ [])) (set e m x) (m + 1)
+holds-store {l} {e} {n} {m} {xs} x p h =
+    holds-both p (record { front = ap (λ k. take k (set e m x)) (add-one m) ∙ take-suc-set e m x h; count = refl })
+
+-- what was put on top, and that what is below still stands
+pub on-top : {l e : List ℕ} {n m : ℕ} {ys : List ℕ} → Holds l n ys e m → n ≤ length l → length e ≡ length l → between n m e ≡ ys
+unfolding between
+on-top {l} {e} {n} {m} {ys} p h k =
+    let c : n + (m - n) ≡ m = omega (arith, p .count) in
+    let a : take m e ≡ take n e ++ take (m - n) (drop n e) = ap (λ z. take z e) (sym c) ∙ take-add n (m - n) e in
+    sym (drop-at (take n e) (take (m - n) (drop n e)) n (length-take-le n e (omega arith)))
+    ∙ ap (drop n) (sym a ∙ p .front) ∙ drop-at (take n l) ys n (length-take-le n l h)
+
+pub below : {l e : List ℕ} {n m : ℕ} {ys : List ℕ} → Holds l n ys e m → n ≤ length l → take n e ≡ take n l
+below {l} {e} {n} {m} {ys} p h =
+    sym (take-take n m e (omega (arith, p .count))) ∙ ap (take n) (p .front) ∙ take-at (take n l) ys n (length-take-le n l h)
+
+-- a child was put on top of what was there; then some of the two stay
+pub settled : (old new : Bool) {l o e f : List ℕ} {n m k r : ℕ} {xs ys : List ℕ} → Holds l n xs o m → Holds o m ys e k
+    → n ≤ length l → m ≤ length o → length e ≡ length o
+    → Holds e (if old m n) (if new (between m k e) []) f r → Holds l n (if old xs [] ++ if new ys []) f r
+settled true new {l} {o} {e} {f} {n} {m} {k} {r} {xs} {ys} p q hl ho he w =
+    holds-both (record { front = below q ho ∙ p .front; count = p .count }) (rw (on-top q ho he) at w)
+settled false new {l} {o} {e} {f} {n} {m} {k} {r} {xs} {ys} p q hl ho he w =
+    let a : take n e ≡ take n l =
+    sym (take-take n m e (omega (arith, p .count))) ∙ ap (take n) (below q ho ∙ p .front) ∙ take-at (take n l) xs n (length-take-le n l hl) in
+    holds-both (record { front = a ∙ sym (append-nil (take n l)); count = omega arith }) (rw (on-top q ho he) at w)
+
+-- the whole, once the rest is cleared
+pub cleared : {l e f : List ℕ} {m : ℕ} {xs : List ℕ} → Holds l 0 xs e m → length e ≡ length l → f ≡ take m e ++ replicate (length e - m) 0
+    → f ≡ xs ++ replicate (length l - length xs) 0
+cleared {l} {e} {f} {m} {xs} p k w =
+    let c : length e - m ≡ length l - length xs = omega (arith, p .count) in
+    w ∙ ap (λ z. z ++ replicate (length e - m) 0) (p .front) ∙ ap (λ z. xs ++ replicate z 0) c
+
+-- the loop that moves
+pub shift-none : (l : List ℕ) (at m : ℕ) → l ≡ paste l at (drop m l) 0
+shift-none l at m = paste-zero l at (drop m l)
+
+pub shift-more : (l o : List ℕ) (at m k : ℕ) → at ≤ m → m + k < length l → o ≡ paste l at (drop m l) k
+    → set o (at + k) (getD o (m + k) 0) ≡ paste l at (drop m l) (k + 1)
+shift-more l o at m k h g e =
+    let dl : length (drop m l) ≡ length l - m = length-drop m l in
+    let c : (at + k) + (m - at) ≡ m + k = omega arith in
+    let v : getD (paste l at (drop m l) k) (m + k) 0 ≡ getD (drop m l) k 0 =
+    ap (λ z. getD (paste l at (drop m l) k) z 0) (sym c)
+    ∙ sym (getD-drop (at + k) (paste l at (drop m l) k) (m - at) 0)
+    ∙ ap (λ z. getD z (m - at) 0) (drop-paste l at (drop m l) k (omega arith) (omega arith))
+    ∙ getD-drop (at + k) l (m - at) 0 ∙ ap (λ z. getD l z 0) c ∙ sym (getD-drop m l k 0) in
+    rw (e, v) (paste-suc l at (drop m l) k 0 (omega arith) (omega arith) ∙ ap (paste l at (drop m l)) (sym (add-one k)))
+
+pub shift-done : (l o : List ℕ) (at m e k : ℕ) → at ≤ m → m ≤ e → e ≤ length l → k ≡ e - m → o ≡ paste l at (drop m l) k
+    → Holds l at (between m e l) o (at + (e - m))
+unfolding between
+shift-done l o at m e k h g j q w =
+    let dl : length (drop m l) ≡ length l - m = length-drop m l in
+    record {
+      front = ap (take (at + (e - m))) (w ∙ ap (paste l at (drop m l)) q) ∙ take-paste l at (drop m l) (e - m) (omega arith) (omega arith);
+      count = omega (arith, length-take-le (e - m) (drop m l) (omega arith));
+    }
+
+-- the loop that clears
+pub clear-none : (l : List ℕ) (n : ℕ) → l ≡ take n l ++ (replicate (n - n) 0 ++ drop n l)
+clear-none l n = let c : n - n ≡ 0 = omega arith in rw c (sym (take-append-drop n l))
+
+pub clear-more : (l o : List ℕ) (n k : ℕ) → n ≤ k → k < length l → o ≡ take n l ++ (replicate (k - n) 0 ++ drop k l)
+    → set o k 0 ≡ take n l ++ (replicate (k + 1 - n) 0 ++ drop (k + 1) l)
+clear-more l o n k h g e =
+    let p : List ℕ = take n l ++ replicate (k - n) 0 in
+    let c : k + 1 - n ≡ (k - n) + 1 = omega arith in
+    let lp : length p ≡ k = length-append (take n l) (replicate (k - n) 0) ∙ omega (arith, length-take-le n l (omega arith), length-replicate {A = ℕ} (k - n) 0) in
+    let a : o ≡ p ++ getD l k 0 ∷ drop (suc k) l =
+    e ∙ ap (λ z. take n l ++ (replicate (k - n) 0 ++ z)) (drop-cons l k 0 g) ∙ sym (append-assoc (take n l) (replicate (k - n) 0) _) in
+    rw (a, set-at p (getD l k 0) (drop (suc k) l) 0 k lp, c, add-one k)
+    (append-assoc (take n l) (replicate (k - n) 0) (0 ∷ drop (suc k) l)
+    ∙ ap (λ z. take n l ++ z) (sym (append-assoc (replicate (k - n) 0) (0 ∷ []) (drop (suc k) l)) ∙ ap (λ z. z ++ drop (suc k) l) (replicate-append-replicate (k - n) 1 0)))
+
+pub clear-done : (l o : List ℕ) (n k : ℕ) → k ≡ length l → o ≡ take n l ++ (replicate (k - n) 0 ++ drop k l) → o ≡ take n l ++ replicate (length l - n) 0
+clear-done l o n k e w = w ∙ rw (e, drop-length, append-nil)
+
+-- nothing is moved
+pub keep-both : (l : List ℕ) (m e : ℕ) → m ≤ e → e ≤ length l → Holds l m (between m e l) l e
+unfolding between
+keep-both l m e h g =
+    let c : m + (e - m) ≡ e = omega arith in
+    record {
+      front = ap (λ z. take z l) (sym c) ∙ take-add m (e - m) l;
+      count = omega (arith, length-take-le (e - m) (drop m l) (omega (arith, length-drop m l)));
+    }

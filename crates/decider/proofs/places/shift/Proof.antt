@@ -1,0 +1,50 @@
+use Rattle.decider.proofs.Stack.{shift-none, shift-more, shift-done}
+use lib.Seq.{paste}
+use lib.ListN.{length, drop, length-set}
+use Prim.Native.Nat.{_+_, _-_, _<_, _≤_}
+use mathlib.Core.Path.{_≡_, refl, sym, ap, _∙_}
+use native.Mathlib.Omega.{arith}
+use borrow.Author.Needs.{needs}
+use Rattle.decider.proofs.places.shift.Statement.{statement}
+use Rattle.decider.proofs.places.shift.Tie as tie
+use Rattle.decider.proofs.places.shift.Reads as reads
+use Rattle.decider.proofs.places.shift.Lts as lts
+
+abbrev Inv-loop : tie.InvT-loop
+Inv-loop out₀ at m e total k₀ out k = (total ≡ e - m) × (k ≤ total) × (length out ≡ length out₀) × (out ≡ paste out₀ at (drop m out₀) k)
+
+abbrev μ-loop : tie.MeasureT-loop
+μ-loop out₀ at m e total k₀ out k = total - k
+
+loop-holds : tie.Need-loop-holds Inv-loop μ-loop
+loop-holds c = (refl, omega arith, refl, shift-none (c .args .out .now) (c .args .at) (c .args .m))
+
+loop-again : tie.Need-loop-again Inv-loop μ-loop
+loop-again c = (search needs, omega arith, simp length-set (c .before .before .loop .inv .2), shift-more (c .before .before .before .args .out .now) _ _ _ _ (c .before .before .before .pre .0) (omega arith) (c .before .before .loop .inv .3))
+
+same-length : tie.Need-same-length Inv-loop μ-loop
+same-length c = c .before .loop .inv .2
+
+returns : tie.Need-returns Inv-loop μ-loop
+returns c = (shift-done (c .before .before .args .out .now) (c .before .loop .out) (c .before .before .args .at) (c .before .before .args .m) (c .before .before .args .e) (c .before .loop .k) (c .before .before .pre .0) (c .before .before .pre .1) (c .before .before .pre .2) (omega arith) (c .before .loop .inv .3), omega arith)
+
+pub shift-spec : {M : Type 1} → statement M
+shift-spec =
+    tie.close
+    (tie.spec
+    Inv-loop
+    μ-loop
+    (λ c. search needs)
+    loop-holds
+    (λ c. search needs)
+    (λ c. search needs)
+    (λ c. search needs)
+    (λ c. search needs)
+    (λ c. search needs)
+    (λ c. search needs)
+    (λ c. search needs)
+    (λ c. search needs)
+    loop-again
+    (λ c. search needs)
+    same-length
+    returns)

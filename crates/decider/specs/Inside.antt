@@ -1,0 +1,116 @@
+-- What the functions inside the decider say to each other. Assumes nothing.
+use Prim.Native.Nat.{ℕ, suc, _+_, _-_, _≤_, _<_, max}
+use mathlib.Core.Path.{_≡_}
+use mathlib.Core.Bool.{Bool, true, false}
+use mathlib.Core.List.{List, [], _∷_}
+use Rattle.record.specs.Choose.{if, both, either}
+use Rattle.record.specs.Forest.{Forest, none, node, forest}
+use Rattle.meaning.specs.Logic.{some}
+use Rattle.meaning.specs.Policy.{Tree, policy, set}
+use Rattle.meaning.specs.Meaning.{Bags, Child, is, decisionOf, unsure, applying, combine, handed, binding, overPolicies, childOf, childrenOf}
+use Rattle.meaning.specs.Reading.{isKind, choiceAt, effectOf, treeAt, treesIn}
+use Rattle.meaning.specs.declared.Truth.{Truth}
+use Rattle.meaning.specs.declared.Truth.the-variants.{True, False, Unknown}
+use Rattle.meaning.specs.declared.Decision.{Decision}
+use Rattle.meaning.specs.declared.Decision.the-variants.{Permit, Deny, NotApplicable, Indeterminate}
+use Rattle.meaning.specs.declared.Algorithm.{Algorithm}
+use Rattle.meaning.specs.declared.Algorithm.the-variants.{OnlyOne}
+use Rattle.decider.specs.Places.{Holds}
+use Rattle.decider.specs.declared.Pick.{Pick}
+use Rattle.decider.specs.declared.Pick.the-variants.{Nobody, One, Many}
+
+-- record i with the span s: its tree, and what a parent sees of it; and the policies and sets that stand among `count` records from `from` on
+unfoldable pub treeFrom : List ℕ → ℕ → ℕ → Tree
+treeFrom b i s = treeAt b i (forest b (i + 1) (s - 1)) (treesIn b (forest b (i + 1) (s - 1)))
+
+unfoldable pub childAt : List ℕ → Bags → ℕ → ℕ → Child
+childAt b g i s = childOf g (treeFrom b i s)
+
+unfoldable pub childrenIn : List ℕ → Bags → ℕ → ℕ → List Child
+childrenIn b g from count = childrenOf g (treesIn b (forest b from count))
+
+-- is record i a policy or a set? Is it an obligation for d?
+abbrev pub isParty : List ℕ → ℕ → Bool
+isParty b i = either (isKind b i 1) (isKind b i 2)
+
+unfoldable pub isDue : List ℕ → ℕ → Decision → Bool
+isDue b i d = both (isKind b i 8) (is d (decisionOf (effectOf (choiceAt b i))))
+
+-- obligations are only for Permit or Deny; what came with d stays where the same is decided
+abbrev pub binds : Decision → Bool
+binds Permit = true
+binds Deny = true
+binds NotApplicable = false
+binds Indeterminate = false
+
+abbrev pub keeps : Decision → Decision → Bool
+keeps d v = both (binds v) (is d v)
+
+-- what the children hand up: of an algorithm, and of a tree, where rules hand up nothing
+unfoldable pub upOf : Algorithm → List Child → List ℕ
+upOf a cs = binding (combine a cs) (handed a (combine a cs) cs)
+
+unfoldable pub upIn : Bags → Tree → List ℕ
+upIn g (policy a t rs os) = []
+upIn g (set a t ns os) = upOf (overPolicies a) (childrenOf g ns)
+
+unfoldable pub upAt : List ℕ → Bags → ℕ → ℕ → List ℕ
+upAt b g i s = upIn g (treeFrom b i s)
+
+-- the obligation records that stand in a forest; that stand below it; and both
+unfoldable pub directOf : List ℕ → Forest → ℕ
+directOf b none = 0
+directOf b (node i kids rest) = if (isKind b i 8) 1 0 + directOf b rest
+
+unfoldable pub roomOf : List ℕ → Forest → ℕ
+roomOf b none = 0
+roomOf b (node i kids rest) = if (isKind b i 8) 1 0 + roomOf b kids + roomOf b rest
+
+unfoldable pub deepOf : List ℕ → Forest → ℕ
+deepOf b none = 0
+deepOf b (node i kids rest) = roomOf b kids + deepOf b rest
+
+-- how deep a forest nests
+unfoldable pub nestOf : Forest → ℕ
+nestOf none = 0
+nestOf (node i kids rest) = max (suc (nestOf kids)) (nestOf rest)
+
+-- xs stand on top of n places, in no more than `room` of them
+pub record Put (l : List ℕ) (n : ℕ) (xs : List ℕ) (room : ℕ) (e : List ℕ) (m : ℕ) : Type 0 where
+  pub holds : Holds l n xs e m
+  pub within : m ≤ n + room
+
+-- and the decision is v
+pub record Ruled (l : List ℕ) (n : ℕ) (v : Decision) (xs : List ℕ) (room : ℕ) (e : List ℕ) (d : Decision) (m : ℕ) : Type 0 where
+  pub says : d ≡ v
+  pub puts : Put l n xs room e m
+
+-- record j with the span s is the one child whose target matches, among `count` records from `from` on
+pub record Single (b : List ℕ) (g : Bags) (from count j s : ℕ) : Type 0 where
+  pub sure : some unsure (childrenIn b g from count) ≡ false
+  pub alone : applying (childrenIn b g from count) ≡ childAt b g j s ∷ []
+  pub applies : childAt b g j s .target ≡ True
+  pub there : 0 < s
+  pub ends : j + s ≤ from + count
+  pub fits : s ≤ count
+  pub room : roomOf b (forest b (j + 1) (s - 1)) ≤ deepOf b (forest b from count)
+  pub nest : nestOf (forest b (j + 1) (s - 1)) < nestOf (forest b from count)
+
+-- what the targets of the children leave to only-one
+unfoldable pub Picked : List ℕ → Bags → ℕ → ℕ → Pick → Type 0
+Picked b g from count Nobody = combine OnlyOne (childrenIn b g from count) ≡ NotApplicable
+Picked b g from count (One j s) = Single b g from count j s
+Picked b g from count Many = combine OnlyOne (childrenIn b g from count) ≡ Indeterminate
+
+-- a target more
+abbrev pub noted : Pick → Truth → ℕ → ℕ → Pick
+noted p False i s = p
+noted p Unknown i s = Many
+noted Nobody True i s = One i s
+noted (One j t) True i s = Many
+noted Many True i s = Many
+
+abbrev pub isMany : Pick → Bool
+isMany Nobody = false
+isMany (One j s) = false
+isMany Many = true

@@ -1,0 +1,220 @@
+-- How the parts of a target, of a condition and of a policy begin, and what follows from the first of them. Assumes nothing.
+use mathlib.Core.Path.{_≡_, refl, sym, ap, _∙_}
+use mathlib.Core.Bool.{Bool, true, false}
+use mathlib.Core.List.{List, [], _∷_}
+use Prim.Native.Nat.{ℕ, zero, suc, _+_, _-_, _≤_, _<_}
+use native.Mathlib.Omega.{arith}
+use borrow.Author.Tests.{ne-eqb}
+use Rattle.record.specs.Choose.{if}
+use Rattle.record.specs.Bytes.{byteOf}
+use Rattle.record.specs.Forest.{Forest, none, node, spanIn, forest}
+use Rattle.record.proofs.Forests.{forest-none, forest-step, forest-more}
+use Rattle.meaning.specs.Logic.{andAll, orAll, notOf, targetAll}
+use Rattle.meaning.specs.Policy.{Some, OverRules, rulesDeny, rulesPermit, rulesFirst}
+use Rattle.meaning.specs.Meaning.{Bags, matchOf, comparisonOf, conditionOf, conditionsOf, each, conjunctionOf, sectionOf, sectionsOf, targetOf, under, decisionOf, whenOf, ruleOf, Child, combine, overRules, ruleChild, ruleChildren}
+use Rattle.meaning.specs.Reading.{matchAt, comparisonAt, rowOf, childrenAt, conjunctionAt, sectionAt, targetIn, conditionAt, conditionsIn, whenIn, effectOf, ruleAt, rulesIn}
+use Rattle.meaning.specs.declared.Test.{Test}
+use Rattle.meaning.specs.declared.Truth.{Truth}
+use Rattle.meaning.specs.declared.Truth.the-variants.{True, False, Unknown}
+use Rattle.meaning.specs.declared.Effect.{Effect}
+use Rattle.meaning.specs.declared.Decision.{Decision}
+use Rattle.meaning.specs.declared.Decision.the-variants.{NotApplicable, Indeterminate}
+use Rattle.meaning.specs.declared.Algorithm.{Algorithm}
+use Rattle.algorithm.specs.Fold.{start, absorb, settled, result, isOnly}
+use Rattle.algorithm.specs.declared.Acc.{Acc}
+use Rattle.algorithm.proofs.Walk.{takes, walk, result-right}
+use Rattle.rules.proofs.Loops.{ands, ors, alone}
+
+-- the truths of the records of a forest, each read with its children
+unfoldable pub truths : {A : Type 0} → (A → Truth) → (ℕ → Forest → A) → Forest → List Truth
+truths f read none = []
+truths f read (node i kids rest) = f (read i kids) ∷ truths f read rest
+
+each-row : {A : Type 0} (f : A → Truth) (read : ℕ → Forest → A) (i : ℕ) (kids rest : Forest)
+    → each f (rowOf read i kids rest) ≡ f (read i kids) ∷ truths f read rest
+unfolding rowOf truths
+each-row f read i kids none = refl
+each-row f read i kids (node j below rest) = ap (λ (ts : List Truth). f (read i kids) ∷ ts) (each-row f read j below rest)
+
+-- the children of record i, where there is one
+each-child : {A : Type 0} (f : A → Truth) (read : ℕ → Forest → A) (b : List ℕ) (i s : ℕ) → 0 < s → (s ≡ 1 → ⊥)
+    → truths f read (forest b (i + 1) (s - 1)) ≡ each f (childrenAt read i (forest b (i + 1) (s - 1)))
+unfolding childrenAt truths
+each-child f read b i s h z = rw (forest-step b (i + 1) (s - 1) (omega arith)) (sym (each-row f read (i + 1) _ _))
+
+-- the match at a record, whatever stands below it
+unfoldable pub matchRead : List ℕ → ℕ → Forest → Test
+matchRead b i kids = matchAt b i
+
+-- a conjunction, a section: with children, and without
+module _ (b : List ℕ) (g : Bags) (i s : ℕ) where
+  pub conjunction-many : 0 < s → (s ≡ 1 → ⊥)
+      → andAll (truths (matchOf g) (matchRead b) (forest b (i + 1) (s - 1))) ≡ conjunctionOf g (conjunctionAt b i (forest b (i + 1) (s - 1)))
+  unfolding conjunctionOf conjunctionAt matchRead
+  conjunction-many h z = ap andAll (each-child (matchOf g) (λ (j : ℕ) (below : Forest). matchAt b j) b i s h z)
+
+  pub conjunction-one : {x : Test} {t : Truth} → s ≡ 1 → x ≡ matchAt b i → t ≡ matchOf g x → t ≡ conjunctionOf g (conjunctionAt b i (forest b (i + 1) (s - 1)))
+  unfolding conjunctionOf conjunctionAt childrenAt
+  conjunction-one z ex et = rw (forest-none b (i + 1) (s - 1) (omega arith), et, ex) (sym (alone ands (matchOf g (matchAt b i))))
+
+  pub section-many : 0 < s → (s ≡ 1 → ⊥)
+      → orAll (truths (conjunctionOf g) (conjunctionAt b) (forest b (i + 1) (s - 1))) ≡ sectionOf g (sectionAt b i (forest b (i + 1) (s - 1)))
+  unfolding sectionOf sectionAt
+  section-many h z = ap orAll (each-child (conjunctionOf g) (conjunctionAt b) b i s h z)
+
+  pub section-one : {t : Truth} → s ≡ 1 → t ≡ conjunctionOf g (conjunctionAt b i (forest b (i + 1) 0)) → t ≡ sectionOf g (sectionAt b i (forest b (i + 1) (s - 1)))
+  unfolding sectionOf sectionAt childrenAt
+  section-one z et = rw (forest-none b (i + 1) (s - 1) (omega arith), et, forest-none b (i + 1) 0 refl) (sym (alone ors _))
+
+-- no records are left
+module _ (b : List ℕ) (i left : ℕ) (h : left ≤ 0) where
+  ends : forest b i left ≡ none
+  ends = forest-none b i left (omega arith)
+
+  pub truths-none : {A : Type 0} (f : A → Truth) (read : ℕ → Forest → A) → truths f read (forest b i left) ≡ []
+  unfolding truths
+  truths-none f read = rw ends
+
+  pub sections-none : (g : Bags) → sectionsOf g (targetIn b (forest b i left)) ≡ []
+  unfolding sectionsOf targetIn
+  sections-none g = rw ends
+
+  pub conditions-none : (g : Bags) → conditionsOf g (conditionsIn b (forest b i left)) ≡ []
+  unfolding conditionsOf conditionsIn
+  conditions-none g = rw ends
+
+  pub when-none : (g : Bags) {w : Truth} → whenOf g (whenIn b (forest b i left)) ≡ w → True ≡ w
+  unfolding whenOf whenIn
+  when-none g p = rw ends at p
+
+-- record i is next, with the span s
+module _ (b : List ℕ) (i left : ℕ) {s : ℕ} (h : 0 < left) (e : s ≡ spanIn b i left) where
+  begins : forest b i left ≡ node i (forest b (i + 1) (s - 1)) (forest b (i + s) (left - s))
+  begins = forest-more b i left (λ z. omega arith) e
+
+  pub matches-more : (g : Bags) {x : Test} {t : Truth} → x ≡ matchAt b i → t ≡ matchOf g x
+      → truths (matchOf g) (matchRead b) (forest b i left) ≡ t ∷ truths (matchOf g) (matchRead b) (forest b (i + s) (left - s))
+  unfolding truths matchRead
+  matches-more g ex et = rw (begins, et, ex)
+
+  pub conjunctions-more : (g : Bags) {t : Truth} → t ≡ conjunctionOf g (conjunctionAt b i (forest b (i + 1) (s - 1)))
+      → truths (conjunctionOf g) (conjunctionAt b) (forest b i left) ≡ t ∷ truths (conjunctionOf g) (conjunctionAt b) (forest b (i + s) (left - s))
+  unfolding truths
+  conjunctions-more g et = rw (begins, et)
+
+  pub conditions-more : (g : Bags) {t : Truth} → t ≡ conditionOf g (conditionAt b i (conditionsIn b (forest b (i + 1) (s - 1))))
+      → conditionsOf g (conditionsIn b (forest b i left)) ≡ t ∷ conditionsOf g (conditionsIn b (forest b (i + s) (left - s)))
+  unfolding conditionsOf conditionsIn
+  conditions-more g et = rw (begins, et)
+
+  -- with its kind
+  module _ (g : Bags) {k : ℕ} (ek : k ≡ byteOf b i 0) where
+    pub sections-more : {t : Truth} → k ≡ 4 → t ≡ sectionOf g (sectionAt b i (forest b (i + 1) (s - 1)))
+        → sectionsOf g (targetIn b (forest b i left)) ≡ t ∷ sectionsOf g (targetIn b (forest b (i + s) (left - s)))
+    unfolding sectionsOf targetIn
+    sections-more q et = rw (begins, ← ek, q, et)
+
+    pub when-here : {t w : Truth} → k ≡ 7 → t ≡ conditionOf g (conditionAt b i (conditionsIn b (forest b (i + 1) (s - 1))))
+        → whenOf g (whenIn b (forest b i left)) ≡ w → t ≡ w
+    unfolding whenOf whenIn
+    when-here q et p = rw (begins, ← ek, q, ← et) at p
+
+    pub when-later : {w : Truth} → (k ≡ 7 → ⊥) → whenOf g (whenIn b (forest b i left)) ≡ w → whenOf g (whenIn b (forest b (i + s) (left - s))) ≡ w
+    unfolding whenIn
+    when-later q p = rw (begins, ← ek, ne-eqb k 7 q) at p
+
+-- the first record is no section
+pub sections-over : (b : List ℕ) (i left : ℕ) (g : Bags) {k : ℕ} → 0 < left → k ≡ byteOf b i 0 → (k ≡ 4 → ⊥) → sectionsOf g (targetIn b (forest b i left)) ≡ []
+unfolding sectionsOf targetIn
+sections-over b i left g {k} h ek q = rw (forest-step b i left h, ← ek, ne-eqb k 4 q)
+
+-- a condition by its choice
+module _ (b : List ℕ) (g : Bags) (i s : ℕ) {k : ℕ} (e : k ≡ byteOf b i 1) where
+  pub is-and : {t : Truth} → k ≡ 1 → t ≡ andAll (conditionsOf g (conditionsIn b (forest b (i + 1) (s - 1))))
+      → t ≡ conditionOf g (conditionAt b i (conditionsIn b (forest b (i + 1) (s - 1))))
+  unfolding conditionOf conditionAt
+  is-and q et = rw (← e, q) et
+
+  pub is-or : {t : Truth} → k ≡ 2 → t ≡ orAll (conditionsOf g (conditionsIn b (forest b (i + 1) (s - 1))))
+      → t ≡ conditionOf g (conditionAt b i (conditionsIn b (forest b (i + 1) (s - 1))))
+  unfolding conditionOf conditionAt
+  is-or q et = rw (← e, q) et
+
+  pub is-comparison : {x : Test} {t : Truth} → (k ≡ 1 → ⊥) → (k ≡ 2 → ⊥) → (k ≡ 3 → ⊥) → x ≡ comparisonAt b i → t ≡ comparisonOf g x
+      → t ≡ conditionOf g (conditionAt b i (conditionsIn b (forest b (i + 1) (s - 1))))
+  unfolding conditionOf conditionAt
+  is-comparison p q r ex et = rw (← e, ne-eqb k 1 p, ne-eqb k 2 q, ne-eqb k 3 r, ← ex) et
+
+  pub not-none : {x : Test} {t : Truth} → k ≡ 3 → s ≡ 1 → x ≡ comparisonAt b i → t ≡ comparisonOf g x
+      → t ≡ conditionOf g (conditionAt b i (conditionsIn b (forest b (i + 1) (s - 1))))
+  unfolding conditionOf conditionAt conditionsIn
+  not-none q h ex et = rw (forest-none b (i + 1) (s - 1) (omega arith), ← e, q, ← ex) et
+
+  pub not-more : {n : ℕ} {t u : Truth} → k ≡ 3 → 0 < s → (s ≡ 1 → ⊥) → n ≡ spanIn b (i + 1) (s - 1)
+      → t ≡ conditionOf g (conditionAt b (i + 1) (conditionsIn b (forest b (i + 1 + 1) (n - 1)))) → u ≡ notOf t
+      → u ≡ conditionOf g (conditionAt b i (conditionsIn b (forest b (i + 1) (s - 1))))
+  unfolding conditionOf conditionAt conditionsIn
+  not-more q z h en et eu = rw (begins b (i + 1) (s - 1) (omega arith) en, ← e, q, ← et) eu
+
+-- a rule by its target
+module _ (b : List ℕ) (g : Bags) (i : ℕ) (kids : Forest) {x : Truth} (e : x ≡ targetOf g (targetIn b kids)) where
+  pub rule-no : x ≡ False → NotApplicable ≡ ruleOf g (ruleAt b i kids)
+  unfolding ruleOf ruleAt
+  rule-no q = rw (← e, q)
+
+  pub rule-lost : x ≡ Unknown → Indeterminate ≡ ruleOf g (ruleAt b i kids)
+  unfolding ruleOf ruleAt
+  rule-lost q = rw (← e, q)
+
+  pub rule-yes : {c : ℕ} {f : Effect} {v : Truth} {o d : Decision} → x ≡ True → c ≡ byteOf b i 1 → f ≡ effectOf c → v ≡ whenOf g (whenIn b kids)
+      → o ≡ decisionOf f → d ≡ under v o → d ≡ ruleOf g (ruleAt b i kids)
+  unfolding ruleOf ruleAt
+  rule-yes q ec ef ev eo ed = rw (← e, q, ← ec, ← ef, ← ev, ← eo) ed
+
+-- what an algorithm over rules that has acc so far is still to say of the rules in a forest
+unfoldable pub ruled : List ℕ → Bags → Algorithm → Acc → Forest → Decision
+ruled b g a acc rest = result a (walk a acc (ruleChildren g (rulesIn b rest)))
+
+pub rules-all : (b : List ℕ) (g : Bags) (f : Forest) (a : Algorithm) {acc : Acc} (r : OverRules) → a ≡ overRules r → acc ≡ start a
+    → ruled b g a acc f ≡ combine (overRules r) (ruleChildren g (rulesIn b f))
+unfolding ruled
+rules-all b g f a r er e = rw (e, ← er) (result-right a (ruleChildren g (rulesIn b f)))
+
+pub rules-end : (b : List ℕ) (g : Bags) (i left : ℕ) (a : Algorithm) (acc : Acc) {d w : Decision} → left ≤ 0 → d ≡ result a acc
+    → ruled b g a acc (forest b i left) ≡ w → d ≡ w
+unfolding ruled walk ruleChildren rulesIn
+rules-end b g i left a acc h ed p = ed ∙ (rw (ends b i left h) at p)
+
+-- over rules no algorithm is only-one-applicable, so a rule is taken in by its decision
+pub not-only : (a : Algorithm) (r : OverRules) → a ≡ overRules r → isOnly a ≡ false
+not-only a r e = rw e (each-is r)
+  where
+    each-is : (r : OverRules) → isOnly (overRules r) ≡ false
+    each-is rulesDeny = refl
+    each-is rulesPermit = refl
+    each-is rulesFirst = refl
+
+takes-rule : (b : List ℕ) (g : Bags) (i : ℕ) (kids : Forest) (a : Algorithm) (acc : Acc) {c : ℕ} {f : Effect} {d : Decision} {next : Acc}
+    → isOnly a ≡ false → c ≡ byteOf b i 1 → f ≡ effectOf c → d ≡ ruleOf g (ruleAt b i kids) → next ≡ absorb a acc f d
+    → takes a acc (ruleChild g (ruleAt b i kids)) ≡ next
+unfolding ruleChild ruleAt
+takes-rule b g i kids a acc o ec ef ed en = rw (o, en, ed, ef, ec)
+
+module _ (b : List ℕ) (g : Bags) (i left : ℕ) (a : Algorithm) (acc : Acc) {s k : ℕ} {w : Decision}
+    (h : 0 < left) (e : s ≡ spanIn b i left) (ek : k ≡ byteOf b i 0) (p : ruled b g a acc (forest b i left) ≡ w) where
+  pub rules-skip : (k ≡ 3 → ⊥) → ruled b g a acc (forest b (i + s) (left - s)) ≡ w
+  unfolding ruled rulesIn
+  rules-skip q = rw (begins b i left h e, ← ek, ne-eqb k 3 q) at p
+
+  module _ {c : ℕ} {f : Effect} {d : Decision} {next : Acc} {t : Bool} (q : k ≡ 3) (o : isOnly a ≡ false) (ec : c ≡ byteOf b i 1) (ef : f ≡ effectOf c)
+      (ed : d ≡ ruleOf g (ruleAt b i (forest b (i + 1) (s - 1)))) (en : next ≡ absorb a acc f d) (et : t ≡ settled a next) where
+    more : result a (if t next (walk a next (ruleChildren g (rulesIn b (forest b (i + s) (left - s)))))) ≡ w
+    unfolding ruled rulesIn ruleChildren walk
+    more = rw et (rw (begins b i left h e, ← ek, q, takes-rule b g i (forest b (i + 1) (s - 1)) a acc o ec ef ed en) at p)
+
+    pub rules-stop : {x : Decision} → t ≡ true → x ≡ result a next → x ≡ w
+    rules-stop z ex = ex ∙ (rw z at more)
+
+    pub rules-turn : t ≡ false → ruled b g a next (forest b (i + s) (left - s)) ≡ w
+    unfolding ruled
+    rules-turn z = rw z at more

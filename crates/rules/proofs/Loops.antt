@@ -1,0 +1,47 @@
+-- Truths joined one after another: what a loop over parts keeps, when it may stop, and how it ends. Assumes nothing.
+use mathlib.Core.Path.{_≡_, refl, sym, ap, _∙_}
+use mathlib.Core.List.{List, [], _∷_}
+use Rattle.meaning.specs.Logic.{andAll, orAll, targetAll, andOf, orOf, targetAnd}
+use Rattle.meaning.specs.declared.Truth.{Truth}
+use Rattle.meaning.specs.declared.Truth.the-variants.{True, False, Unknown}
+use Rattle.meaning.proofs.Logic.{and-none, and-cons, and-assoc, and-true, and-false, or-none, or-cons, or-assoc, or-false, or-true, target-none, target-cons, target-assoc, target-true, target-unknown}
+
+-- a way of joining truths: many, two, what none gives, and what settles it
+pub record Joins (many : List Truth → Truth) (two : Truth → Truth → Truth) (start sure : Truth) : Type 0 where
+  pub none : many [] ≡ start
+  pub cons : (t : Truth) (ts : List Truth) → many (t ∷ ts) ≡ two t (many ts)
+  pub assoc : (a t y : Truth) → two (two a t) y ≡ two a (two t y)
+  pub unit : (a : Truth) → two a start ≡ a
+  pub early : (y : Truth) → two sure y ≡ sure
+  pub late : (a : Truth) → two a sure ≡ sure
+
+pub ands : Joins andAll andOf True False
+ands = record { none = and-none; cons = and-cons; assoc = and-assoc; unit = and-true; early = λ y. refl; late = and-false }
+
+pub ors : Joins orAll orOf False True
+ors = record { none = or-none; cons = or-cons; assoc = or-assoc; unit = or-false; early = λ y. refl; late = or-true }
+
+pub targets : Joins targetAll targetAnd True Unknown
+targets = record { none = target-none; cons = target-cons; assoc = target-assoc; unit = target-true; early = λ y. refl; late = target-unknown }
+
+-- what a loop that has a so far is still to say of the truths ts
+unfoldable pub then : (List Truth → Truth) → (Truth → Truth → Truth) → Truth → List Truth → Truth
+then many two a ts = two a (many ts)
+
+module _ {many : List Truth → Truth} {two : Truth → Truth → Truth} {start sure : Truth} (j : Joins many two start sure) where
+  -- a single part
+  pub alone : (t : Truth) → many (t ∷ []) ≡ t
+  alone t = j .cons t [] ∙ ap (two t) (j .none) ∙ j .unit t
+
+  module _ (a : Truth) {t w : Truth} {xs ts : List Truth} (e : xs ≡ t ∷ ts) where
+    pub turn : {u : Truth} → u ≡ two a t → then many two a xs ≡ w → then many two u ts ≡ w
+    unfolding then
+    turn eu p = rw eu (j .assoc a t (many ts) ∙ (rw (e, j .cons t ts) at p))
+
+    pub stop : t ≡ sure → then many two a xs ≡ w → sure ≡ w
+    unfolding then
+    stop z p = sym (j .late a) ∙ (rw (e, j .cons t ts, z, j .early (many ts)) at p)
+
+  pub end : (a : Truth) {w : Truth} {xs : List Truth} → xs ≡ [] → then many two a xs ≡ w → a ≡ w
+  unfolding then
+  end a e p = sym (j .unit a) ∙ (rw (e, j .none) at p)

@@ -1,0 +1,80 @@
+-- A run and a tick, in single steps: document 01, "The programme and its ticks". Assumes nothing.
+use Prim.Native.Nat.{ℕ, zero, suc, _+_, _-_}
+use mathlib.Core.Bool.{Bool, true, false}
+use mathlib.Core.List.{List, _++_}
+use lib.Dec.{ltb, leb}
+use lib.ListN.{length, take, replicate}
+use Rattle.record.specs.Choose.{if, both}
+use Rattle.record.specs.Refusals.{noRoom, badRun}
+use Rattle.record.specs.declared.Refusal.{Refusal}
+use Rattle.meaning.specs.Meaning.{Bags}
+use Rattle.meaning.specs.Reading.{bagsOf}
+use Rattle.judge.specs.Request.{judgeRequestOf}
+use Rattle.judge.specs.declared.JudgedRequest.{JudgedRequest}
+use Rattle.judge.specs.declared.JudgedRequest.the-variants as judged
+use Rattle.programme.specs.declared.State.{State}
+use Rattle.programme.specs.Layout.{unpackOf, allowed}
+use Rattle.programme.specs.Step.{mayStep, stepOf, isOver, countBy}
+use Rattle.run.specs.declared.Answer.{Answer}
+use Rattle.run.specs.declared.Answer.the-variants.{Running, Finished, Refused}
+use Rattle.run.specs.declared.Ran.{Ran}
+use Rattle.run.specs.declared.Tick.{Tick}
+
+-- a run of at most so many steps: no further than a finished state, and not ok where a step that it would take meets entries outside their layout
+abbrev pub stay : Bool → State → Ran
+stay ok s = record { ok = ok; state = s; steps = 0 }
+
+abbrev pub oneMore : Ran → Ran
+oneMore r = record { ok = r .ok; state = r .state; steps = 1 + r .steps }
+
+-- is the run over, may a step be taken; the rest of the run after that step
+abbrev pub goOn : Bool → Bool → State → Ran → Ran
+goOn true may s r = stay true s
+goOn false false s r = stay false s
+goOn false true s r = oneMore r
+
+unfoldable pub runOf : List ℕ → Bags → ℕ → State → Ran
+runOf p g zero s = stay true s
+runOf p g (suc n) s = goOn (isOver s) (mayStep p s) s (runOf p g n (stepOf p g s))
+
+-- the programme has an entry and not over 8,008, and the state is one that its layout allows
+unfoldable pub admitted : ℕ → ℕ → Bool
+admitted long head = both (ltb 0 long) (both (leb long 8008) (allowed head))
+
+-- a tick gives the state, the steps taken and the answer, and leaves the lent places so
+pub record Ticked : Type 0 where
+  pub tick : Tick
+  pub out : List ℕ
+
+abbrev pub refused : Refusal → State → List ℕ → Ticked
+refused r s out = record { tick = record { state = s; steps = 0; answer = Refused r }; out = out }
+
+-- the obligations of a finished state are its first places
+unfoldable pub countOf : State → ℕ
+countOf s = let h = unpackOf (s .head) in countBy (h .reg) h
+
+unfoldable pub obligationsOf : State → List ℕ
+obligationsOf s = take (countOf s) (s .places)
+
+-- the answer after a run: running; or finished, with the obligations first and zero in every other place
+unfoldable pub answered : Bool → State → ℕ → List ℕ → Ticked
+answered false s n out = record { tick = record { state = s; steps = n; answer = Running }; out = out }
+answered true s n out = record {
+  tick = record { state = s; steps = n; answer = Finished (unpackOf (s .head) .reg) (countOf s) };
+  out = obligationsOf s ++ replicate (length out - countOf s) 0;
+}
+
+unfoldable pub ranOf : Bool → Ran → State → List ℕ → Ticked
+ranOf true r s out = answered (isOver (r .state)) (r .state) (r .steps) out
+ranOf false r s out = refused badRun s out
+
+-- a tick judges request, output, programme and state
+abbrev pub judgedTick : List ℕ → Bags → JudgedRequest → State → ℕ → List ℕ → Ticked
+judgedTick p g (judged.Refused r) s budget out = refused r s out
+judgedTick p g (judged.Accepted n) s budget out =
+    if (ltb (length out) 1000) (refused noRoom s out)
+    (if (admitted (length p) (s .head)) (ranOf (runOf p g budget s .ok) (runOf p g budget s) s out)
+    (refused badRun s out))
+
+unfoldable pub tickOf : List ℕ → List ℕ → State → ℕ → List ℕ → Ticked
+tickOf p q s budget out = judgedTick p (bagsOf q) (judgeRequestOf q) s budget out

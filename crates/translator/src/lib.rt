@@ -1,0 +1,1 @@
+// The translator: from the records of an accepted book to a programme.
