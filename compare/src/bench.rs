@@ -2,6 +2,7 @@
 //! all ticks, whatever the programme and the state are.
 
 use crate::lent::Lent;
+use crate::refusal::too_short;
 use crate::run::{hex, Difference};
 use crate::subject::{Host, Rig, Tick, TickAnswer};
 
@@ -33,13 +34,18 @@ pub struct Machine<'a> {
 }
 
 impl<'a> Machine<'a> {
-    /// Finds the smallest length of a state that the library takes.
+    /// Finds the smallest length of a state that the library takes. Shorter ones are refused with 7.
     pub fn new(rig: &'a dyn Rig, host: Option<&'a dyn Host>) -> Result<Machine<'a>, Difference> {
-        let fits = |length: &usize| rig.fresh(&mut vec![0; *length]) == 0;
-        match (0..=256 + PLACES).find(fits) {
-            Some(state_length) => Ok(Machine { rig, host, state_length }),
-            None => Err(" no length up to 1,256 is enough for a state".to_string()),
+        for state_length in 0..=256 + PLACES {
+            let before = vec![7; state_length];
+            let mut state = Lent::new(&before);
+            match rig.fresh(state.part_mut()) {
+                0 => return Ok(Machine { rig, host, state_length }),
+                refused if refused == too_short().packed() && state.holds(&before) => {}
+                other => return Err(format!(" a state of {state_length} numbers: {other:#x}")),
+            }
         }
+        Err(" no length up to 1,256 is enough for a state".to_string())
     }
 
     /// The fresh state; what the buffer held before does not count.
@@ -78,7 +84,8 @@ impl<'r> Bench<'r> {
             && lent_out.holds(&left.out)
             && programme == self.programme
             && request == self.request;
-        let fault = if outside { self.fault(&left, state, budget, out) } else { Some("memory that was not lent is changed") };
+        let fault =
+            if outside { self.fault(&left, state, budget, out) } else { Some("memory that was not lent is changed") };
         match fault {
             None => Ok(left),
             Some(fault) => Err(self.difference(fault, state, budget, &left)),

@@ -50,12 +50,26 @@ impl Style {
         let small = Style::small(random);
         match random.below(1000) {
             0..=249 => Style { limit: random.between(1, 6), ..small },
-            250..=339 => Style { limit: random.between(16, 60), set_depth: 16, nest: 97, children: 2, sections: 5, ..small },
+            250..=339 => {
+                Style { limit: random.between(16, 60), set_depth: 16, nest: 97, children: 2, sections: 5, ..small }
+            }
             340..=399 => Style { limit: random.between(20, 80), set_depth: 2, conditions: 100, logic: 85, ..small },
             400..=449 => Style { limit: random.between(40, 150), fill: true, ..small },
             450..=469 => Style { limit: random.between(40, 200), set_depth: 1, children: 200, sections: 5, ..small },
             470..=476 => Style { limit: random.between(150, 1000), fill: true, ..small },
             477..=479 => Style { limit: random.pick(&[998, 999, 1000]), fill: true, ..small },
+            480..=599 => {
+                let children = random.between(3, 8);
+                Style {
+                    limit: random.between(20, 80),
+                    set_depth: 3,
+                    nest: 15,
+                    children,
+                    sections: 3,
+                    obligations: 2,
+                    ..small
+                }
+            }
             _ => small,
         }
     }
@@ -151,8 +165,24 @@ pub fn obligation(effect: u8, number: u16) -> Record {
 /// A value of this type, often one at a border.
 pub fn value(random: &mut Random, value_type: u8) -> [u8; 8] {
     let integers = [0, 1, -1, 50, 49, 51, -50, i64::MAX, i64::MIN, i64::MAX - 1, 1 << 32, -(1 << 32)];
-    let doubles =
-        [0.0, -0.0, 0.0, -0.0, 1.0, -1.0, 0.1, 5e-324, -5e-324, f64::MIN_POSITIVE, 2.5e-310, f64::MAX, f64::MIN, 1e300, 4.5, -4.5];
+    let doubles = [
+        0.0,
+        -0.0,
+        0.0,
+        -0.0,
+        1.0,
+        -1.0,
+        0.1,
+        5e-324,
+        -5e-324,
+        f64::MIN_POSITIVE,
+        2.5e-310,
+        f64::MAX,
+        f64::MIN,
+        1e300,
+        4.5,
+        -4.5,
+    ];
     match value_type {
         DOUBLE if random.chance(80) => random.pick(&doubles).to_be_bytes(),
         DOUBLE => finite(random.next()).to_be_bytes(),

@@ -64,7 +64,12 @@ fn sound_programme(machine: &Machine, random: &mut Random) -> Result<(Vec<u64>, 
 }
 
 /// The fresh state, or one in the middle or at the end of the run.
-fn sound_state(machine: &Machine, random: &mut Random, programme: &[u64], request: &[u8]) -> Result<Vec<u64>, Difference> {
+fn sound_state(
+    machine: &Machine,
+    random: &mut Random,
+    programme: &[u64],
+    request: &[u8],
+) -> Result<Vec<u64>, Difference> {
     let fresh = machine.fresh(0)?;
     let some = random.below(programme.len()) as u64;
     let steps = random.pick(&[0, 1, 2, some]);

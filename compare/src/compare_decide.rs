@@ -3,7 +3,7 @@
 use crate::books;
 use crate::damage;
 use crate::decide;
-use crate::judge::refusals_of;
+use crate::judge::{self, refusals_of};
 use crate::lent::Lent;
 use crate::paper;
 use crate::random::Random;
@@ -24,6 +24,7 @@ pub fn wanted() -> Wanted {
         (refusals_of(Part::Request), numbers([2, 4, 5])),
         (refusals_of(Part::Output), numbers([7])),
         ("room", words(&ROOMS)),
+        ("faults at once", words(&["book and request", "book and output", "request and output"])),
     ]);
     wanted
 }
@@ -53,19 +54,36 @@ fn room(random: &mut Random, needed: usize, tally: &mut Tally) -> Vec<u8> {
     random.bytes(length)
 }
 
+/// Counts the calls that could be refused for more than one part.
+fn count_faults(book: &[u8], request: &[u8], out: &[u8], tally: &mut Tally) {
+    let request_fault = judge::request(request).is_err();
+    match judge::book(book) {
+        Err(_) if request_fault => tally.met("faults at once", "book and request"),
+        Err(_) if out.is_empty() => tally.met("faults at once", "book and output"),
+        Ok(accepted) if request_fault && out.len() < 2 * accepted.obligations => {
+            tally.met("faults at once", "request and output")
+        }
+        _ => {}
+    }
+}
+
 /// Calls both sides and compares the answers and the whole buffers.
-fn check(host: &dyn Host, book: &[u8], request: &[u8], out: &[u8], tally: &mut Tally) -> Result<(), Difference> {
+pub fn check(host: &dyn Host, book: &[u8], request: &[u8], out: &[u8], tally: &mut Tally) -> Result<(), Difference> {
     let mut expected_out = out.to_vec();
     let expected = decide::host_call(book, request, &mut expected_out, tally);
+    if expected % 256 == 255 {
+        count_faults(book, request, out, tally);
+    }
     let (lent_book, lent_request, mut lent_out) = (Lent::new(book), Lent::new(request), Lent::new(out));
     let got = host.decide(lent_book.part(), lent_request.part(), lent_out.part_mut());
     if got == expected && lent_out.holds(&expected_out) && lent_book.holds(book) && lent_request.holds(request) {
         return Ok(());
     }
     Err(format!(
-        " book {}\n request {}\n output before {}\n expected {expected:#x} {}\n got {got:#x} {}",
+        "compare once decide {} {} {}\n output before {}\n expected {expected:#x} {}\n got {got:#x} {}",
         hex(book),
         hex(request),
+        out.len(),
         hex(out),
         hex(&expected_out),
         hex(lent_out.part()),

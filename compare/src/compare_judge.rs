@@ -18,6 +18,7 @@ pub fn wanted() -> Wanted {
         ("accepted", words(&["book", "request"])),
         (refusals_of(Part::Book), numbers([2, 3, 4, 5, 6])),
         (refusals_of(Part::Request), numbers([2, 4, 5])),
+        ("depth of an accepted book", numbers(1..=16)),
         ("records of an accepted book", numbers([1, 2, 3, 998, 999, 1000])),
         ("entries of an accepted request", numbers([0, 1, 2, 63, 64])),
     ]);
@@ -29,18 +30,18 @@ pub fn case(library: &dyn Judge, random: &mut Random, tally: &mut Tally) -> Resu
     let records = if random.chance(50) { books::small_book(random) } else { books::book(random) };
     if random.chance(25) {
         let entries = requests::request(random, &records);
-        let bytes =
-            if random.chance(25) { request_bytes(&entries) } else { damage::request(random, entries) };
+        let bytes = if random.chance(25) { request_bytes(&entries) } else { damage::request(random, entries) };
         return check_request(library, &bytes, tally);
     }
     let bytes = if random.chance(15) { book_bytes(&records) } else { damage::book(random, records) };
     check_book(library, &bytes, tally)
 }
 
-fn check_book(library: &dyn Judge, bytes: &[u8], tally: &mut Tally) -> Result<(), Difference> {
+pub fn check_book(library: &dyn Judge, bytes: &[u8], tally: &mut Tally) -> Result<(), Difference> {
     let expected = match judge::book(bytes) {
         Ok(accepted) => {
             tally.met("accepted", "book");
+            tally.met("depth of an accepted book", accepted.depth as u64);
             if accepted.records <= 3 || accepted.records >= 998 {
                 tally.met("records of an accepted book", accepted.records as u64);
             }
@@ -51,10 +52,10 @@ fn check_book(library: &dyn Judge, bytes: &[u8], tally: &mut Tally) -> Result<()
             refused.refusal.packed()
         }
     };
-    same("judge book", bytes, expected, |lent| library.judge_book(lent))
+    same("judge-book", bytes, expected, |lent| library.judge_book(lent))
 }
 
-fn check_request(library: &dyn Judge, bytes: &[u8], tally: &mut Tally) -> Result<(), Difference> {
+pub fn check_request(library: &dyn Judge, bytes: &[u8], tally: &mut Tally) -> Result<(), Difference> {
     let expected = match judge::request(bytes) {
         Ok(entries) => {
             tally.met("accepted", "request");
@@ -68,7 +69,7 @@ fn check_request(library: &dyn Judge, bytes: &[u8], tally: &mut Tally) -> Result
             refused.refusal.packed()
         }
     };
-    same("judge request", bytes, expected, |lent| library.judge_request(lent))
+    same("judge-request", bytes, expected, |lent| library.judge_request(lent))
 }
 
 fn same(name: &str, bytes: &[u8], expected: u64, call: impl Fn(&[u8]) -> u64) -> Result<(), Difference> {
@@ -77,7 +78,7 @@ fn same(name: &str, bytes: &[u8], expected: u64, call: impl Fn(&[u8]) -> u64) ->
     if got == expected && lent.holds(bytes) {
         return Ok(());
     }
-    Err(format!(" {name}\n input {}\n expected {expected:#x}\n got {got:#x}", hex(bytes)))
+    Err(format!("compare once {name} {}\n expected {expected:#x}\n got {got:#x}", hex(bytes)))
 }
 
 /// Document 01's `Run:` line: 1,000 lines accepted, 1,001 gives 2; 16 nested sets accepted, 17 gives 6

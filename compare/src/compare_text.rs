@@ -28,14 +28,14 @@ const DAMAGES: [&str; 12] = [
 
 pub fn wanted() -> Wanted {
     vec![
-        ("read book", words(&["accepted"])),
-        ("read book", numbers([1, 2, 3, 7])),
-        ("read request", words(&["accepted"])),
-        ("read request", numbers([1, 2, 7])),
-        ("write book", words(&["accepted"])),
-        ("write book", numbers([2, 3, 4, 7])),
-        ("write request", words(&["accepted"])),
-        ("write request", numbers([2, 4, 7])),
+        ("read-book", words(&["accepted"])),
+        ("read-book", numbers([1, 2, 3, 7])),
+        ("read-request", words(&["accepted"])),
+        ("read-request", numbers([1, 2, 7])),
+        ("write-book", words(&["accepted"])),
+        ("write-book", numbers([2, 3, 4, 7])),
+        ("write-request", words(&["accepted"])),
+        ("write-request", numbers([2, 4, 7])),
         ("lines of a book's text", numbers([0, 1, 2, 998, 999, 1000, 1001, 1002])),
         ("lines of a request's text", numbers([0, 1, 2, 62, 63, 64, 65, 66])),
         ("damage of a text", words(&DAMAGES)),
@@ -49,7 +49,8 @@ pub fn wanted() -> Wanted {
 pub fn case(library: &dyn Texts, random: &mut Random, tally: &mut Tally) -> Result<(), Difference> {
     let part = if random.chance(50) { Part::Book } else { Part::Request };
     let lines = lines(random, part);
-    let records = if random.chance(90) || lines == 0 { random.bytes(lines * LENGTH) } else { book_records(random, lines) };
+    let records =
+        if random.chance(90) || lines == 0 { random.bytes(lines * LENGTH) } else { book_records(random, lines) };
     let writing = random.chance(40);
     let (input, needed) = if writing {
         let bytes = damaged_length(random, records);
@@ -178,25 +179,25 @@ fn damaged_length(random: &mut Random, mut records: Vec<u8>) -> Vec<u8> {
 }
 
 /// One call: its input, and its output as it is before.
-struct Call {
-    writing: bool,
-    part: Part,
-    input: Vec<u8>,
-    out: Vec<u8>,
+pub struct Call {
+    pub writing: bool,
+    pub part: Part,
+    pub input: Vec<u8>,
+    pub out: Vec<u8>,
 }
 
 impl Call {
     fn name(&self) -> &'static str {
         match (self.writing, self.part) {
-            (false, Part::Book) => "read book",
-            (false, _) => "read request",
-            (true, Part::Book) => "write book",
-            (true, _) => "write request",
+            (false, Part::Book) => "read-book",
+            (false, _) => "read-request",
+            (true, Part::Book) => "write-book",
+            (true, _) => "write-request",
         }
     }
 
     /// Calls both sides and compares the answers and the whole buffers.
-    fn check(&self, library: &dyn Texts, tally: &mut Tally) -> Result<(), Difference> {
+    pub fn check(&self, library: &dyn Texts, tally: &mut Tally) -> Result<(), Difference> {
         let mut expected_out = self.out.clone();
         let model = if self.writing { text::write } else { text::read };
         let expected = model(self.part, &self.input, &mut expected_out);
@@ -216,9 +217,10 @@ impl Call {
             return Ok(());
         }
         Err(format!(
-            " {}\n input {}\n output before {}\n expected {expected:#x} {}\n got {got:#x} {}",
+            "compare once {} {} {}\n output before {}\n expected {expected:#x} {}\n got {got:#x} {}",
             self.name(),
             hex(&self.input),
+            self.out.len(),
             hex(&self.out),
             hex(&expected_out),
             hex(lent_out.part()),

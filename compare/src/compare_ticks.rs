@@ -60,7 +60,12 @@ pub fn some_book(random: &mut Random) -> Vec<Record> {
 }
 
 /// Translates: the programme, or nothing where the call is rightly refused.
-pub fn translate(rig: &dyn Rig, random: &mut Random, book: &[u8], tally: &mut Tally) -> Result<Option<Vec<u64>>, Difference> {
+pub fn translate(
+    rig: &dyn Rig,
+    random: &mut Random,
+    book: &[u8],
+    tally: &mut Tally,
+) -> Result<Option<Vec<u64>>, Difference> {
     let needed = 8 * (book.len() / 16) + 8;
     let (room, length) = match random.below(20) {
         0 => ("short room", needed - 1),
@@ -78,7 +83,11 @@ pub fn translate(rig: &dyn Rig, random: &mut Random, book: &[u8], tally: &mut Ta
     let wrong = |why: &str| Err(format!(" translating: {why}\n book {}\n room {length}\n got {got:#x}", hex(book)));
     if let Some(refusal) = expected {
         tally.met(refusals_of(refusal.part), refusal.number);
-        return if got != refusal.packed() || programme != before { wrong("not refused as it should be") } else { Ok(None) };
+        return if got != refusal.packed() || programme != before {
+            wrong("not refused as it should be")
+        } else {
+            Ok(None)
+        };
     }
     let entries = (got / 256) as usize;
     if got % 256 != 0 || entries == 0 || entries > needed {
@@ -166,7 +175,14 @@ impl Run<'_> {
 
     /// The steps dealt out over ticks lead to the same end, each tick taking the smaller of its budget
     /// and the steps left.
-    fn deal_out(&self, random: &mut Random, start: &[u64], whole: &Left, junk: &[u16], tally: &mut Tally) -> Result<(), Difference> {
+    fn deal_out(
+        &self,
+        random: &mut Random,
+        start: &[u64],
+        whole: &Left,
+        junk: &[u16],
+        tally: &mut Tally,
+    ) -> Result<(), Difference> {
         let how = random.below(DEALINGS.len());
         tally.met("dealing-out", DEALINGS[how]);
         let mut state = start.to_vec();

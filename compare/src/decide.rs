@@ -153,18 +153,33 @@ impl Evaluator<'_> {
     /// The decision, and the answers of the children that were evaluated.
     fn policies(&mut self, algorithm: Algorithm, policies: &[Policy]) -> (Decision, Vec<Answer>) {
         match algorithm {
-            Algorithm::DenyOverrides => self.walk("deny-overrides over policies", policies, |child| match child {
-                Deny | Indeterminate => Some(Deny),
-                _ => None,
-            }, &[Permit]),
-            Algorithm::PermitOverrides => self.walk("permit-overrides over policies", policies, |child| match child {
-                Permit => Some(Permit),
-                _ => None,
-            }, &[Deny, Indeterminate]),
-            Algorithm::FirstApplicable => self.walk("first-applicable over policies", policies, |child| match child {
-                NotApplicable => None,
-                answer => Some(answer),
-            }, &[]),
+            Algorithm::DenyOverrides => self.walk(
+                "deny-overrides over policies",
+                policies,
+                |child| match child {
+                    Deny | Indeterminate => Some(Deny),
+                    _ => None,
+                },
+                &[Permit],
+            ),
+            Algorithm::PermitOverrides => self.walk(
+                "permit-overrides over policies",
+                policies,
+                |child| match child {
+                    Permit => Some(Permit),
+                    _ => None,
+                },
+                &[Deny, Indeterminate],
+            ),
+            Algorithm::FirstApplicable => self.walk(
+                "first-applicable over policies",
+                policies,
+                |child| match child {
+                    NotApplicable => None,
+                    answer => Some(answer),
+                },
+                &[],
+            ),
             Algorithm::OnlyOneApplicable => self.only_one(policies),
         }
     }
@@ -182,7 +197,14 @@ impl Evaluator<'_> {
         for (index, policy) in policies.iter().enumerate() {
             let answer = self.policy(policy);
             let stop = stops(answer.decision);
-            self.met(group, if stop.is_some() { ("stopped by", answer.decision.name()) } else { ("goes on after", answer.decision.name()) });
+            self.met(
+                group,
+                if stop.is_some() {
+                    ("stopped by", answer.decision.name())
+                } else {
+                    ("goes on after", answer.decision.name())
+                },
+            );
             evaluated.push(answer);
             if let Some(decision) = stop {
                 self.count_after_stop(decision, &policies[index + 1..]);
@@ -192,7 +214,10 @@ impl Evaluator<'_> {
         }
         let given = |wanted: &&Decision| evaluated.iter().any(|child| child.decision == **wanted);
         let decision = otherwise.iter().find(given).copied().unwrap_or(NotApplicable);
-        self.met(group, (decision.name(), if policies.is_empty() { "no children" } else { beside(decision, &evaluated) }));
+        self.met(
+            group,
+            (decision.name(), if policies.is_empty() { "no children" } else { beside(decision, &evaluated) }),
+        );
         (decision, evaluated)
     }
 
@@ -253,6 +278,7 @@ impl Evaluator<'_> {
                 self.met("child's obligations lost", (child.decision.name(), decision.name()));
             }
         }
+        policy.obligations.iter().for_each(|_| self.look());
         let own = policy.obligations.iter().filter(|own| own.effect == decision);
         let own: Vec<u16> = own.map(|own| own.number).collect();
         if own.len() < policy.obligations.len() {
@@ -293,7 +319,10 @@ impl Evaluator<'_> {
             let answer = self.aside(|aside| aside.policy(policy));
             if !answer.obligations.is_empty() {
                 let same = answer.decision == decision;
-                self.met("child's obligations lost", ("after the stop", if same { "same decision" } else { "other decision" }));
+                self.met(
+                    "child's obligations lost",
+                    ("after the stop", if same { "same decision" } else { "other decision" }),
+                );
             }
         }
     }
@@ -334,7 +363,10 @@ pub fn wanted() -> Wanted {
         ("rule", pairs(&effects, &["target No-match", "target Indeterminate", "no condition"])),
         ("rule", pairs(&effects, &["condition True", "condition False", "condition Indeterminate"])),
         ("policy or set", pairs(&["policy", "set"], &["target No-match", "target Indeterminate"])),
-        ("first-applicable over rules", pairs(&["Permit", "Deny", "Indeterminate"], &["of the first", "of a later one"])),
+        (
+            "first-applicable over rules",
+            pairs(&["Permit", "Deny", "Indeterminate"], &["of the first", "of a later one"]),
+        ),
         ("first-applicable over rules", pairs(&["NotApplicable"], &["no rules", "none applies"])),
         ("deny-overrides over policies", pairs(&["Deny"], &["alone", "over Permit", "over Indeterminate"])),
         ("deny-overrides over policies", pairs(&["Permit"], &["alone"])),
@@ -355,7 +387,10 @@ pub fn wanted() -> Wanted {
         ("own obligations lost", words(&["target No-match", "target Indeterminate"])),
         ("child's obligations kept", words(&["Permit", "Deny", "of several children"])),
         ("child's obligations kept", words(&["with own after them", "over two levels or more"])),
-        ("child's obligations lost", vec![("Permit", "Deny").into(), ("Deny", "Permit").into(), "two applicable".into()]),
+        (
+            "child's obligations lost",
+            vec![("Permit", "Deny").into(), ("Deny", "Permit").into(), "two applicable".into()],
+        ),
         ("child's obligations lost", pairs(&["after the stop"], &["same decision", "other decision"])),
     ]);
     for (group, strong, weak) in
@@ -363,7 +398,10 @@ pub fn wanted() -> Wanted {
     {
         wanted.push((group, pairs(&[strong], &["stops", "after its Indeterminate rule"])));
         wanted.push((group, pairs(&[weak], &["alone", "despite its Indeterminate rule"])));
-        wanted.push((group, pairs(&["Indeterminate"], &["overriding rule", "overriding rule, over the other effect", "other rule"])));
+        wanted.push((
+            group,
+            pairs(&["Indeterminate"], &["overriding rule", "overriding rule, over the other effect", "other rule"]),
+        ));
         wanted.push((group, pairs(&["NotApplicable"], &["no rules", "none applies"])));
     }
     wanted

@@ -14,6 +14,7 @@ pub type Cause = (&'static str, Item);
 pub struct Accepted {
     pub records: usize,
     pub obligations: usize,
+    pub depth: usize,
 }
 
 #[derive(Debug)]
@@ -51,9 +52,9 @@ pub fn book(bytes: &[u8]) -> Result<Accepted, Refused> {
     for (index, record) in records.iter().enumerate() {
         line_without(field_faults(record), 5, Part::Book, index + 1)?;
     }
-    judge_places(&records)?;
+    let depth = judge_places(&records)?;
     let obligations = records.iter().filter(|record| record.kind() == OBLIGATION).count();
-    Ok(Accepted { records: records.len(), obligations })
+    Ok(Accepted { records: records.len(), obligations, depth })
 }
 
 /// Judges a request: 4, 2, then the first entry with 5. Gives the number of entries.
@@ -194,8 +195,8 @@ fn entry_faults(entry: &Entry) -> Vec<Cause> {
 
 // Place rules
 
-/// Refuses the first line that breaks a place rule.
-fn judge_places(records: &[Record]) -> Result<(), Refused> {
+/// Refuses the first line that breaks a place rule. Gives the depth of the deepest line.
+fn judge_places(records: &[Record]) -> Result<usize, Refused> {
     line_without(line_1_faults(records), 6, Part::Book, 1)?;
     let mut depth = vec![1; records.len()];
     let mut parents = vec![0; records.len()];
@@ -208,7 +209,7 @@ fn judge_places(records: &[Record]) -> Result<(), Refused> {
         let place = Place { records, at, parent, previous, depth: depth[at] };
         line_without(place.faults(), 6, Part::Book, at + 1)?;
     }
-    Ok(())
+    Ok(depth.into_iter().max().unwrap_or(1))
 }
 
 fn line_1_faults(records: &[Record]) -> Vec<Cause> {
@@ -309,7 +310,10 @@ pub fn wanted_causes() -> Wanted {
     let all = ["set", "policy", "rule", "section", "conjunction", "match", "condition", "comparison", "obligation"];
     let mut wanted = vec![
         ("field: kind", words(&["unknown"])),
-        ("field: choice", words(&["set", "policy", "rule", "section", "conjunction", "match", "condition", "obligation"])),
+        (
+            "field: choice",
+            words(&["set", "policy", "rule", "section", "conjunction", "match", "condition", "obligation"]),
+        ),
         ("field: span 0", words(&all)),
         ("field: span not 1", words(&["match", "comparison", "obligation"])),
         ("field: span below 2", words(&["section", "conjunction", "not"])),
@@ -320,21 +324,36 @@ pub fn wanted_causes() -> Wanted {
         ("field: unused byte of a section", numbers(5..16)),
         ("field: unused byte of an obligation", numbers((4..6).chain(8..16))),
         ("field: unused byte of an entry", numbers(4..8)),
-        ("place: line 1 is a", words(&["rule", "section", "conjunction", "match", "condition", "comparison", "obligation"])),
+        (
+            "place: line 1 is a",
+            words(&["rule", "section", "conjunction", "match", "condition", "comparison", "obligation"]),
+        ),
         ("place: span of line 1", words(&["below the count", "above the count"])),
         ("place: past the parent's end", words(&["set", "policy", "rule", "section", "conjunction", "condition"])),
-        ("place: after a later one", pairs(&["section"], &["set", "policy", "rule", "condition", "comparison", "obligation"])),
+        (
+            "place: after a later one",
+            pairs(&["section"], &["set", "policy", "rule", "condition", "comparison", "obligation"]),
+        ),
         ("place: after a later one", pairs(&["set", "policy", "rule"], &["obligation"])),
         ("place: second", words(&["condition of a rule", "part of not"])),
         ("place: category of a section after one", words(&["same", "lower"])),
         ("place: category of a match", words(&["not its section's"])),
         ("place: too deep", words(&all)),
-        ("place: not under its parent", pairs(&["set", "policy"], &["policy", "rule", "section", "conjunction", "condition"])),
+        (
+            "place: not under its parent",
+            pairs(&["set", "policy"], &["policy", "rule", "section", "conjunction", "condition"]),
+        ),
         ("place: not under its parent", pairs(&["rule"], &["set", "rule", "section", "conjunction", "condition"])),
         ("place: not under its parent", pairs(&["section"], &["section", "conjunction", "condition"])),
-        ("place: not under its parent", pairs(&["conjunction"], &["set", "policy", "rule", "conjunction", "condition"])),
+        (
+            "place: not under its parent",
+            pairs(&["conjunction"], &["set", "policy", "rule", "conjunction", "condition"]),
+        ),
         ("place: not under its parent", pairs(&["match"], &["set", "policy", "rule", "section", "condition"])),
-        ("place: not under its parent", pairs(&["condition", "comparison"], &["set", "policy", "section", "conjunction"])),
+        (
+            "place: not under its parent",
+            pairs(&["condition", "comparison"], &["set", "policy", "section", "conjunction"]),
+        ),
         ("place: not under its parent", pairs(&["obligation"], &["rule", "section", "conjunction", "condition"])),
     ];
     for name in ["set", "policy", "rule", "conjunction", "condition"] {

@@ -13,6 +13,7 @@ mod decide;
 mod judge;
 mod lent;
 mod linked;
+mod once;
 mod paper;
 mod policy;
 mod random;
@@ -33,6 +34,7 @@ use run::{compare, Cases, Difference};
 use std::process::ExitCode;
 
 const USAGE: &str = "usage: compare NAME COUNT [SEED [FIRST]]
+       compare once CALL INPUT.. [ROOM]
        compare linked
 
 Runs COUNT generated cases against the static library that they are about, from case FIRST (0) of
@@ -42,12 +44,18 @@ SEED (by the clock). NAME is
   decide   deciding through the C host     (library host)
   ticks    translating and running         (library rig; host too, if it is there)
   damaged  damaged programmes and states   (library rig)
+
+`compare once` makes one call and compares it. Inputs are hexadecimal digits, `-` for none; ROOM is the
+length of the output. CALL is read-book, read-request, write-book, write-request (INPUT ROOM),
+judge-book, judge-request (INPUT) or decide (BOOK REQUEST ROOM).
+
 `compare linked` prints the names whose library was there when this was built.";
 
 fn main() -> ExitCode {
     let words: Vec<String> = std::env::args().skip(1).collect();
     let numbers: Option<Vec<u64>> = words.iter().skip(1).map(|word| word.parse().ok()).collect();
     let result = match (words.first().map(String::as_str), numbers.as_deref()) {
+        (Some("once"), _) => once::once(&words[1..]).unwrap_or_else(|| Err(USAGE.to_string())),
         (Some("linked"), Some([])) => {
             print_linked();
             Ok(true)
@@ -90,26 +98,36 @@ fn run_named(name: &str, cases: Cases) -> Result<bool, String> {
         "text" => {
             let library = linked::texts().ok_or_else(missing)?;
             paper_holds(name, compare_text::check_paper(library))?;
-            Ok(compare(name, cases, &compare_text::wanted(), |random, tally| compare_text::case(library, random, tally)))
+            Ok(compare(name, cases, &compare_text::wanted(), |random, tally| {
+                compare_text::case(library, random, tally)
+            }))
         }
         "judge" => {
             let library = linked::judge().ok_or_else(missing)?;
             paper_holds(name, compare_judge::check_paper(library))?;
-            Ok(compare(name, cases, &compare_judge::wanted(), |random, tally| compare_judge::case(library, random, tally)))
+            Ok(compare(name, cases, &compare_judge::wanted(), |random, tally| {
+                compare_judge::case(library, random, tally)
+            }))
         }
         "decide" => {
             let host = linked::host().ok_or_else(missing)?;
             paper_holds(name, compare_decide::check_paper(host))?;
-            Ok(compare(name, cases, &compare_decide::wanted(), |random, tally| compare_decide::case(host, random, tally)))
+            Ok(compare(name, cases, &compare_decide::wanted(), |random, tally| {
+                compare_decide::case(host, random, tally)
+            }))
         }
         "ticks" => {
             let machine = Machine::new(rig::rig().ok_or_else(missing)?, linked::host())?;
             paper_holds(name, compare_ticks::check_paper(&machine))?;
-            Ok(compare(name, cases, &compare_ticks::wanted(), |random, tally| compare_ticks::case(&machine, random, tally)))
+            Ok(compare(name, cases, &compare_ticks::wanted(), |random, tally| {
+                compare_ticks::case(&machine, random, tally)
+            }))
         }
         "damaged" => {
             let machine = Machine::new(rig::rig().ok_or_else(missing)?, None)?;
-            Ok(compare(name, cases, &compare_damaged::wanted(), |random, tally| compare_damaged::case(&machine, random, tally)))
+            Ok(compare(name, cases, &compare_damaged::wanted(), |random, tally| {
+                compare_damaged::case(&machine, random, tally)
+            }))
         }
         _ => Err(USAGE.to_string()),
     }

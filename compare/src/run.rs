@@ -43,7 +43,7 @@ pub fn compare(
     tally.print(wanted);
     differences.sort();
     for (case, difference) in differences.iter().take(SHOWN) {
-        println!("{name}: case {case} differs (run it again: compare {name} 1 {} {case})\n{difference}", cases.seed);
+        println!("{name}: case {case} differs; to see it again: compare {name} 1 {} {case}\n{difference}", cases.seed);
     }
     let unmet = if cases.first == 0 { tally.unmet(wanted) } else { Vec::new() };
     for (group, item) in &unmet {
@@ -80,6 +80,7 @@ pub fn seed_of_now() -> u64 {
     since.map_or(1, |time| time.as_nanos() as u64)
 }
 
+/// Bytes as hexadecimal digits, `-` for none.
 pub fn hex(bytes: &[u8]) -> String {
     if bytes.is_empty() {
         return "-".to_string();

@@ -17,7 +17,7 @@ use crate::refusal::{refuse, too_short, Part};
 use crate::rig::unpack;
 use crate::run::{compare, Cases};
 use crate::subject::{Field, Host, Judge, Rig, Texts, Tick, TickAnswer};
-use crate::tally::Tally;
+use crate::tally::{Tally, Wanted};
 use crate::text;
 
 // Document 01's examples
@@ -77,7 +77,10 @@ fn generated_books_are_sound() {
 #[test]
 fn ticks_are_unpacked() {
     assert_eq!(unpack(7 << 32), Tick { answer: TickAnswer::Running, steps: 7 });
-    assert_eq!(unpack(1 << 32 | 2 + 256 * 3), Tick { answer: TickAnswer::Finished { decision: 2, count: 3 }, steps: 1 });
+    assert_eq!(
+        unpack(1 << 32 | 2 + 256 * 3),
+        Tick { answer: TickAnswer::Finished { decision: 2, count: 3 }, steps: 1 }
+    );
     let refusal = refuse(8, Part::Programme);
     assert_eq!(unpack(refusal.packed()), Tick { answer: TickAnswer::Refused(refusal), steps: 0 });
 }
@@ -135,17 +138,25 @@ impl Judge for Model {
     fn judge_book(&self, book: &[u8]) -> u64 {
         match judge::book(book) {
             Ok(accepted) => 256 * accepted.records as u64 + 16_777_216 * accepted.obligations as u64,
-            Err(refused) if self.0 == Plan::SixBeforeFive && refused.refusal.number == 5 && book[3] == 1 && book.len() > 16 => {
+            Err(refused)
+                if self.0 == Plan::SixBeforeFive && refused.refusal.number == 5 && book[3] == 1 && book.len() > 16 =>
+            {
                 255 + 256 * 6 + 65_536 + (1 << 32)
             }
-            Err(refused) if self.0 == Plan::DepthNotJudged && refused.causes.iter().any(|cause| cause.0 == "place: too deep") => 0,
+            Err(refused)
+                if self.0 == Plan::DepthNotJudged
+                    && refused.causes.iter().any(|cause| cause.0 == "place: too deep") =>
+            {
+                0
+            }
             Err(refused) => refused.refusal.packed(),
         }
     }
 
     fn judge_request(&self, request: &[u8]) -> u64 {
         let extra = u64::from(self.0 == Plan::CountWrong && request.len() == 16 * 64);
-        judge::request(request).map_or_else(|refused| refused.refusal.packed(), |entries| 256 * (entries as u64 - extra))
+        judge::request(request)
+            .map_or_else(|refused| refused.refusal.packed(), |entries| 256 * (entries as u64 - extra))
     }
 }
 
@@ -197,7 +208,8 @@ impl Rig for Model {
             return refused(too_short());
         }
         let first = First::of(state[0]);
-        let allowed = first.number() == state[0] && first.place <= 1000 && state[1..].iter().all(|&place| place < 65_536);
+        let allowed =
+            first.number() == state[0] && first.place <= 1000 && state[1..].iter().all(|&place| place < 65_536);
         let decision = first.decision;
         if programme.is_empty() || programme.len() > 8008 || !allowed || decision > 4 || first.count > first.place {
             if self.0 == Plan::StateLostOnRefusal {
@@ -289,41 +301,58 @@ fn cases(count: u64) -> Cases {
     Cases { seed: 20, first: 0, count }
 }
 
+/// A planted error must show as a difference; nothing need be met then.
+fn wanted(plan: Plan, all: Wanted) -> Wanted {
+    if plan == Plan::Right {
+        all
+    } else {
+        Wanted::new()
+    }
+}
+
 fn text_agrees(plan: Plan, count: u64) -> bool {
     let model = Model(plan);
-    compare("text", cases(count), &compare_text::wanted(), |random, tally| compare_text::case(&model, random, tally))
+    compare("text", cases(count), &wanted(plan, compare_text::wanted()), |random, tally| {
+        compare_text::case(&model, random, tally)
+    })
 }
 
 fn judge_agrees(plan: Plan, count: u64) -> bool {
     let model = Model(plan);
-    compare("judge", cases(count), &compare_judge::wanted(), |random, tally| compare_judge::case(&model, random, tally))
+    compare("judge", cases(count), &wanted(plan, compare_judge::wanted()), |random, tally| {
+        compare_judge::case(&model, random, tally)
+    })
 }
 
 fn decide_agrees(plan: Plan, count: u64) -> bool {
     let model = Model(plan);
-    compare("decide", cases(count), &compare_decide::wanted(), |random, tally| compare_decide::case(&model, random, tally))
+    compare("decide", cases(count), &wanted(plan, compare_decide::wanted()), |random, tally| {
+        compare_decide::case(&model, random, tally)
+    })
 }
 
 fn ticks_agree(plan: Plan, count: u64) -> bool {
     let model = Model(plan);
     let machine = Machine::new(&model, Some(&model)).expect("a state has a length");
     compare_ticks::check_paper(&machine).is_ok()
-        && compare("ticks", cases(count), &compare_ticks::wanted(), |random, tally| compare_ticks::case(&machine, random, tally))
+        && compare("ticks", cases(count), &wanted(plan, compare_ticks::wanted()), |random, tally| {
+            compare_ticks::case(&machine, random, tally)
+        })
 }
 
 fn damaged_agree(plan: Plan, count: u64) -> bool {
     let model = Model(plan);
     let machine = Machine::new(&model, None).expect("a state has a length");
-    compare("damaged", cases(count), &compare_damaged::wanted(), |random, tally| {
+    compare("damaged", cases(count), &wanted(plan, compare_damaged::wanted()), |random, tally| {
         compare_damaged::case(&machine, random, tally)
     })
 }
 
 #[test]
 fn text_comparison() {
-    assert!(text_agrees(Plan::Right, 20_000));
+    assert!(text_agrees(Plan::Right, 10_000));
     for plan in [Plan::SmallLetter, Plan::OneBeforeTwo, Plan::WrittenBeforeJudged, Plan::LastLineFeedNotAsked] {
-        assert!(!text_agrees(plan, 20_000), "{plan:?}");
+        assert!(!text_agrees(plan, 3_000), "{plan:?}");
     }
 }
 
@@ -331,7 +360,7 @@ fn text_comparison() {
 fn judge_comparison() {
     assert!(judge_agrees(Plan::Right, 100_000));
     for plan in [Plan::SixBeforeFive, Plan::DepthNotJudged, Plan::CountWrong] {
-        assert!(!judge_agrees(plan, 100_000), "{plan:?}");
+        assert!(!judge_agrees(plan, 5_000), "{plan:?}");
     }
 }
 
@@ -339,20 +368,22 @@ fn judge_comparison() {
 fn decide_comparison() {
     assert!(decide_agrees(Plan::Right, 50_000));
     for plan in [Plan::OddByteKept, Plan::OrderOfObligations] {
-        assert!(!decide_agrees(plan, 50_000), "{plan:?}");
+        assert!(!decide_agrees(plan, 3_000), "{plan:?}");
     }
 }
 
 #[test]
 fn ticks_comparison() {
-    assert!(ticks_agree(Plan::Right, 4_000));
-    for plan in [Plan::OutputTouchedWhileRunning, Plan::ExtraStep, Plan::EndNotKept, Plan::AnswerTooEarly, Plan::BudgetNotUsed] {
-        assert!(!ticks_agree(plan, 4_000), "{plan:?}");
+    assert!(ticks_agree(Plan::Right, 6_000));
+    for plan in
+        [Plan::OutputTouchedWhileRunning, Plan::ExtraStep, Plan::EndNotKept, Plan::AnswerTooEarly, Plan::BudgetNotUsed]
+    {
+        assert!(!ticks_agree(plan, 2_000), "{plan:?}");
     }
 }
 
 #[test]
 fn damaged_comparison() {
-    assert!(damaged_agree(Plan::Right, 4_000));
-    assert!(!damaged_agree(Plan::StateLostOnRefusal, 4_000));
+    assert!(damaged_agree(Plan::Right, 2_000));
+    assert!(!damaged_agree(Plan::StateLostOnRefusal, 2_000));
 }

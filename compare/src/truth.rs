@@ -242,9 +242,23 @@ pub fn wanted_truths() -> Wanted {
             ),
         ),
         ("and", pairs(&["False"], &["settled", "after an Indeterminate"])),
-        ("and", vec![("True", "no parts").into(), ("True", "all parts seen").into(), ("Indeterminate", "all parts seen").into()]),
+        (
+            "and",
+            vec![
+                ("True", "no parts").into(),
+                ("True", "all parts seen").into(),
+                ("Indeterminate", "all parts seen").into(),
+            ],
+        ),
         ("or", pairs(&["True"], &["settled", "after an Indeterminate"])),
-        ("or", vec![("False", "no parts").into(), ("False", "all parts seen").into(), ("Indeterminate", "all parts seen").into()]),
+        (
+            "or",
+            vec![
+                ("False", "no parts").into(),
+                ("False", "all parts seen").into(),
+                ("Indeterminate", "all parts seen").into(),
+            ],
+        ),
         ("not", words(&["True", "False", "Indeterminate"])),
         ("conjunction", pairs(&["False"], &["settled", "after an Indeterminate"])),
         ("conjunction", pairs(&["True", "Indeterminate"], &["all parts seen"])),

@@ -149,7 +149,7 @@ pub record Standing (a : Algorithm) (cs : List Child) (acc : Acc) (rest : List C
   says : result a (walk a acc rest) ≡ combine a cs
   gives : (d : Decision) → up d ++ gave a d acc rest ≡ gave a d (start a) cs
 
-bind-none : (d : Decision) → [] ≡ binding d []
+pub bind-none : (d : Decision) → [] ≡ binding d []
 bind-none Permit = refl
 bind-none Deny = refl
 bind-none NotApplicable = refl

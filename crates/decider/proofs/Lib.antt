@@ -1,2 +1,5 @@
 pub mod Stack
 pub mod Kept
+pub mod Rooms
+pub mod Children
+pub mod Laws

@@ -2,19 +2,21 @@
 use Prim.Native.Nat.{ℕ, suc, _+_, _-_, _≤_, _<_, max}
 use mathlib.Core.Path.{_≡_}
 use mathlib.Core.Bool.{Bool, true, false}
-use mathlib.Core.List.{List, [], _∷_}
+use mathlib.Core.List.{List, [], _∷_, _++_}
+use lib.ListN.{length, replicate}
 use Rattle.record.specs.Choose.{if, both, either}
 use Rattle.record.specs.Forest.{Forest, none, node, forest}
 use Rattle.meaning.specs.Logic.{some}
 use Rattle.meaning.specs.Policy.{Tree, policy, set}
-use Rattle.meaning.specs.Meaning.{Bags, Child, is, decisionOf, unsure, applying, combine, handed, binding, overPolicies, childOf, childrenOf}
-use Rattle.meaning.specs.Reading.{isKind, choiceAt, effectOf, treeAt, treesIn}
+use Rattle.meaning.specs.Meaning.{Bags, Child, is, decisionOf, unsure, applying, combine, handed, binding, overPolicies, childOf, childrenOf, decides}
+use Rattle.meaning.specs.Reading.{isKind, choiceAt, effectOf, treeAt, treesIn, bookOf, bagsOf}
 use Rattle.meaning.specs.declared.Truth.{Truth}
 use Rattle.meaning.specs.declared.Truth.the-variants.{True, False, Unknown}
 use Rattle.meaning.specs.declared.Decision.{Decision}
 use Rattle.meaning.specs.declared.Decision.the-variants.{Permit, Deny, NotApplicable, Indeterminate}
 use Rattle.meaning.specs.declared.Algorithm.{Algorithm}
 use Rattle.meaning.specs.declared.Algorithm.the-variants.{OnlyOne}
+use Rattle.decider.specs.Outcome.{dutiesOf}
 use Rattle.decider.specs.Places.{Holds}
 use Rattle.decider.specs.declared.Pick.{Pick}
 use Rattle.decider.specs.declared.Pick.the-variants.{Nobody, One, Many}
@@ -85,16 +87,20 @@ pub record Ruled (l : List ℕ) (n : ℕ) (v : Decision) (xs : List ℕ) (room :
   pub says : d ≡ v
   pub puts : Put l n xs room e m
 
--- record j with the span s is the one child whose target matches, among `count` records from `from` on
-pub record Single (b : List ℕ) (g : Bags) (from count j s : ℕ) : Type 0 where
-  pub sure : some unsure (childrenIn b g from count) ≡ false
-  pub alone : applying (childrenIn b g from count) ≡ childAt b g j s ∷ []
-  pub applies : childAt b g j s .target ≡ True
+-- record j with the span s stands among `count` records from `from` on, and its target matches
+pub record Applies (b : List ℕ) (g : Bags) (from count j s : ℕ) : Type 0 where
+  pub matches : childAt b g j s .target ≡ True
   pub there : 0 < s
   pub ends : j + s ≤ from + count
   pub fits : s ≤ count
   pub room : roomOf b (forest b (j + 1) (s - 1)) ≤ deepOf b (forest b from count)
   pub nest : nestOf (forest b (j + 1) (s - 1)) < nestOf (forest b from count)
+
+-- and it alone
+pub record Single (b : List ℕ) (g : Bags) (from count j s : ℕ) : Type 0 where
+  pub sure : some unsure (childrenIn b g from count) ≡ false
+  pub alone : applying (childrenIn b g from count) ≡ childAt b g j s ∷ []
+  pub applies : Applies b g from count j s
 
 -- what the targets of the children leave to only-one
 unfoldable pub Picked : List ℕ → Bags → ℕ → ℕ → Pick → Type 0
@@ -114,3 +120,9 @@ abbrev pub isMany : Pick → Bool
 isMany Nobody = false
 isMany (One j s) = false
 isMany Many = true
+
+-- the answer of a book, and what it leaves of the places l
+pub record Answered (b q l e : List ℕ) (d : Decision) (n : ℕ) : Type 0 where
+  pub says : d ≡ decides (bagsOf q) (bookOf b)
+  pub puts : n ≡ length (dutiesOf b q)
+  pub leaves : e ≡ dutiesOf b q ++ replicate (length l - length (dutiesOf b q)) 0

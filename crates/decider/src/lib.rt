@@ -1,8 +1,11 @@
 // Deciding: one pass over the records of a book, each decided at most once.
+use judge::Judged;
+use judge::JudgedRequest;
 use meaning::Algorithm;
 use meaning::Decision;
 use meaning::Effect;
 use meaning::Truth;
+use record::Refusal;
 ghost use mathlib.Core.Path.{_≡_};
 ghost use mathlib.Core.Bool.{false};
 ghost use Prim.Native.Nat.{_+_, _*_, _-_, _<_, _≤_};
@@ -11,9 +14,17 @@ ghost use Rattle.record.specs.Forest.{forest};
 ghost use Rattle.meaning.specs.Meaning.{is, said, owed, combine, ownOf, binding, overPolicies};
 ghost use Rattle.meaning.specs.Reading.{policiesBy, obligationsIn, bagsOf};
 ghost use Rattle.algorithm.specs.Fold.{isOnly};
-ghost use Rattle.decider.specs.Inside.{childAt, childrenIn, isParty, isDue, keeps, upOf, upAt, directOf, roomOf, deepOf, nestOf, Put, Ruled, Picked, noted, isMany};
+ghost use Rattle.fields.specs.Fields.{obligationsOf};
+ghost use Rattle.decider.specs.Outcome.{outcomeOf, outOf};
+ghost use Rattle.decider.specs.Inside.{Answered, childAt, childrenIn, isParty, isDue, keeps, upOf, upAt, directOf, roomOf, deepOf, nestOf, Put, Ruled, Picked, noted, isMany};
 
 mod places;
+
+// The decision and how many obligations were put, or a refusal.
+pub enum Outcome {
+    Decided(Decision, usize),
+    Refused(Refusal),
+}
 
 // The one child whose target matches, by place and span, for only-one.
 pub enum Pick {
@@ -163,5 +174,187 @@ fn is_many(p: Pick) -> bool
         Pick::Nobody => false,
         Pick::One(_, _) => false,
         Pick::Many => true,
+    }
+}
+
+// The one child whose target matches, among `count` records from `from` on.
+fn choose(book: &[u8], request: &[u8], from: usize, count: usize) -> Pick
+    requires { ⌜ (from + count) * 16 ≤ length (now book) ⌝ }
+    ensures { λ r. ⌜ Picked (now (book .entry)) (bagsOf (now (request .entry))) from count r ⌝ }
+{
+    let mut i = from;
+    let mut left = count;
+    let mut p = Pick::Nobody;
+    while 0 < left {
+        let s = record::span_in(book, i, left);
+        if !is_party(book, i) {
+            i += s;
+            left -= s;
+            continue;
+        }
+        let t = rules::target(book, request, i + 1, s - 1);
+        p = note(p, t, i, s);
+        if is_many(p) {
+            return Pick::Many;
+        }
+        i += s;
+        left -= s;
+    }
+    p
+}
+
+// Record i with the span s as its parent sees it: its decision, and its obligations on top of n places. `depth` levels may lie below it.
+fn child(book: &[u8], request: &[u8], i: usize, s: usize, depth: usize, out: &mut [u16], n: usize) -> Ruling
+    requires { ⌜ (0 < s) × ((i + s) * 16 ≤ length (now book)) × (n + roomOf (now book) (forest (now book) (i + 1) (s - 1)) ≤ length (now out))
+        × (nestOf (forest (now book) (i + 1) (s - 1)) ≤ depth) ⌝ }
+    ensures { λ r. ⌜ Ruled (now (out .entry)) n (said (childAt (now (book .entry)) (bagsOf (now (request .entry))) i s))
+        (owed (childAt (now (book .entry)) (bagsOf (now (request .entry))) i s .target) (childAt (now (book .entry)) (bagsOf (now (request .entry))) i s .duties))
+        (roomOf (now (book .entry)) (forest (now (book .entry)) (i + 1) (s - 1))) (now (out .exit)) (r .decision) (r .count) ⌝ }
+{
+    let t = rules::target(book, request, i + 1, s - 1);
+    match t {
+        Truth::False => Ruling {
+            decision: Decision::NotApplicable,
+            count: n,
+        },
+        Truth::Unknown => Ruling {
+            decision: Decision::Indeterminate,
+            count: n,
+        },
+        Truth::True => body(book, request, i, s, depth, out, n),
+    }
+}
+
+// The same where its target matches.
+fn body(book: &[u8], request: &[u8], i: usize, s: usize, depth: usize, out: &mut [u16], n: usize) -> Ruling
+    requires { ⌜ (0 < s) × ((i + s) * 16 ≤ length (now book)) × (n + roomOf (now book) (forest (now book) (i + 1) (s - 1)) ≤ length (now out))
+        × (nestOf (forest (now book) (i + 1) (s - 1)) ≤ depth) ⌝ }
+    ensures { λ r. ⌜ Ruled (now (out .entry)) n (childAt (now (book .entry)) (bagsOf (now (request .entry))) i s .body)
+        (childAt (now (book .entry)) (bagsOf (now (request .entry))) i s .duties)
+        (roomOf (now (book .entry)) (forest (now (book .entry)) (i + 1) (s - 1))) (now (out .exit)) (r .decision) (r .count) ⌝ }
+{
+    let r = gather(book, request, i, s, depth, out, n);
+    let d = r.decision;
+    let m = own(book, i + 1, s - 1, d, out, r.count);
+    Ruling {
+        decision: d,
+        count: m,
+    }
+}
+
+// What its algorithm makes of its children, and what they hand up.
+fn gather(book: &[u8], request: &[u8], i: usize, s: usize, depth: usize, out: &mut [u16], n: usize) -> Ruling
+    requires { ⌜ (0 < s) × ((i + s) * 16 ≤ length (now book)) × (n + deepOf (now book) (forest (now book) (i + 1) (s - 1)) ≤ length (now out))
+        × (nestOf (forest (now book) (i + 1) (s - 1)) ≤ depth) ⌝ }
+    ensures { λ r. ⌜ Ruled (now (out .entry)) n (childAt (now (book .entry)) (bagsOf (now (request .entry))) i s .body)
+        (upAt (now (book .entry)) (bagsOf (now (request .entry))) i s)
+        (deepOf (now (book .entry)) (forest (now (book .entry)) (i + 1) (s - 1))) (now (out .exit)) (r .decision) (r .count) ⌝ }
+{
+    let kind = record::byte(book, i, 0);
+    let choice = record::byte(book, i, 1);
+    if kind != 1 {
+        let d = rules::rules(book, request, i + 1, s - 1, choice);
+        return Ruling {
+            decision: d,
+            count: n,
+        };
+    }
+    let a = over_policies(choice);
+    if is_only(a) {
+        let p = choose(book, request, i + 1, s - 1);
+        return match p {
+            Pick::Nobody => Ruling {
+                decision: Decision::NotApplicable,
+                count: n,
+            },
+            Pick::Many => Ruling {
+                decision: Decision::Indeterminate,
+                count: n,
+            },
+            Pick::One(j, t) => body(book, request, j, t, depth - 1, out, n),
+        };
+    }
+    walk(book, request, i + 1, s - 1, a, depth, out, n)
+}
+
+// The algorithm's walk over the children that stand among `count` records from `from` on.
+fn walk(book: &[u8], request: &[u8], from: usize, count: usize, a: Algorithm, depth: usize, out: &mut [u16], n: usize) -> Ruling
+    requires { ⌜ ((from + count) * 16 ≤ length (now book)) × (n + deepOf (now book) (forest (now book) from count) ≤ length (now out))
+        × (nestOf (forest (now book) from count) ≤ depth) × (isOnly a ≡ false) ⌝ }
+    ensures { λ r. ⌜ Ruled (now (out .entry)) n (combine a (childrenIn (now (book .entry)) (bagsOf (now (request .entry))) from count))
+        (upOf a (childrenIn (now (book .entry)) (bagsOf (now (request .entry))) from count))
+        (deepOf (now (book .entry)) (forest (now (book .entry)) from count)) (now (out .exit)) (r .decision) (r .count) ⌝ }
+{
+    let mut i = from;
+    let mut left = count;
+    let mut acc = algorithm::begin(a);
+    let mut m = n;
+    while 0 < left {
+        let s = record::span_in(book, i, left);
+        if !is_party(book, i) {
+            i += s;
+            left -= s;
+            continue;
+        }
+        let next = i + s;
+        let r = child(book, request, i, s, depth - 1, out, m);
+        let d = r.decision;
+        let e = r.count;
+        let before = algorithm::outcome(a, acc);
+        acc = algorithm::take_in(a, acc, Effect::Permits, d);
+        let after = algorithm::outcome(a, acc);
+        m = places::settle(out, n, m, e, stay(before, after), stay(d, after));
+        if algorithm::settles(a, acc) {
+            return Ruling {
+                decision: after,
+                count: m,
+            };
+        }
+        i = next;
+        left -= s;
+    }
+    Ruling {
+        decision: algorithm::outcome(a, acc),
+        count: m,
+    }
+}
+
+// What the book of so many records decides for a request, with its obligations first in out and zeros after them.
+fn answer(book: &[u8], request: &[u8], records: usize, out: &mut [u16]) -> Ruling
+    requires { ⌜ (0 < records) × (length (now book) ≡ records * 16) × (obligationsOf (now book) records ≤ length (now out)) ⌝ }
+    ensures { λ r. ⌜ Answered (now (book .entry)) (now (request .entry)) (now (out .entry)) (now (out .exit)) (r .decision) (r .count) ⌝ }
+{
+    let r = child(book, request, 0, records, records, out, 0);
+    let d = r.decision;
+    let n = r.count;
+    places::clear(out, n);
+    Ruling {
+        decision: d,
+        count: n,
+    }
+}
+
+// Judges book, request and output, then decides: the decision, and the obligations first in out and zeros after them. A refusal leaves out as
+// it was.
+pub fn decide(book: &[u8], request: &[u8], out: &mut [u16]) -> Outcome
+    ensures { λ r. ⌜ (r ≡ outcomeOf (now (book .entry)) (now (request .entry)) (length (now (out .entry))))
+        × (now (out .exit) ≡ outOf (now (book .entry)) (now (request .entry)) (now (out .entry))) ⌝ }
+{
+    match judge::judge_book(book) {
+        Judged::Refused(r) => Outcome::Refused(r),
+        Judged::Accepted {
+            records,
+            obligations,
+        } => match judge::judge_request(request) {
+            JudgedRequest::Refused(r) => Outcome::Refused(r),
+            JudgedRequest::Accepted { entries: _ } => {
+                if out.len() < obligations {
+                    return Outcome::Refused(record::no_room());
+                }
+                let r = answer(book, request, records, out);
+                let d = r.decision;
+                Outcome::Decided(d, r.count)
+            }
+        },
     }
 }

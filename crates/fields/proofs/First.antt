@@ -22,15 +22,6 @@ pub by : {A : Type 0} (t : Bool) → (t ≡ true → A) → (t ≡ false → A) 
 by true f g = f refl
 by false f g = g refl
 
--- where all pass, each does
-pub all-at : (f : ℕ → Bool) (n : ℕ) → allBelow f n ≡ true → (j : ℕ) → j < n → f j ≡ true
-unfolding allBelow
-all-at f zero p j h = absurd (not-suc-le-zero h)
-all-at f (suc n) p j h =
-    ⊎-elim (λ q. ap f q ∙ both-right (allBelow f n) (f n) p)
-    (λ l. all-at f n (both-left (allBelow f n) (f n) p) j l)
-    (eq-or-lt-of-le (le-of-suc-le-suc h))
-
 -- two tests that agree
 pub all-same : (f g : ℕ → Bool) (n : ℕ) → ((j : ℕ) → f j ≡ g j) → allBelow f n ≡ allBelow g n
 unfolding allBelow
@@ -123,11 +114,6 @@ module _ (f : ℕ → Bool) where
   first-le i zero = omega arith
   first-le i (suc k) = by (f i) (λ t. rw t (omega (arith, first-le (i + 1) k))) (λ t. rw t (omega arith))
 
-  pub first-ge : (i k : ℕ) → i ≤ firstFrom f i k
-  unfolding firstFrom
-  first-ge i zero = omega arith
-  first-ge i (suc k) = by (f i) (λ t. rw t (omega (arith, first-ge (i + 1) k))) (λ t. rw t (omega arith))
-
   -- all pass: the search goes on behind them
   pub first-past : (i k m : ℕ) → k ≤ m → firstFrom f i k ≡ i + k → firstFrom f i m ≡ firstFrom f (i + k) (m - k)
   unfolding firstFrom
@@ -183,4 +169,3 @@ module _ (f : ℕ → Bool) where
 
   pub first-reach : (n : ℕ) → ((j : ℕ) → j < n → f j ≡ true) → n ≤ firstFrom f 0 n
   first-reach n h = omega (arith, first-reachF 0 n (λ j a z. h j (omega arith)))
-

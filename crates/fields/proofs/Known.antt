@@ -1,21 +1,20 @@
 -- What a record or an entry that keeps the field rules is known to hold: the theorems of `specs/Known.antt`. Assumes nothing.
-use mathlib.Core.Path.{_≡_, refl, sym, _∙_}
+use mathlib.Core.Path.{_≡_, sym, _∙_}
 use mathlib.Core.Bool.{Bool, true, false, not}
 use mathlib.Core.List.{List}
-use Prim.Native.Nat.{ℕ, _+_, _-_, _*_, _/_, _%_, _≤_, _<_}
+use Prim.Native.Nat.{ℕ, _+_, _-_, _*_, _/_, _%_, _≤_}
 use native.Mathlib.Nat.{add-zero}
 use native.Mathlib.Omega.{arith}
 use lib.Dec.{leb, eqb}
 use borrow.Author.Tests.{leb-true, eqb-true, eqb-false, not-true}
-use Rattle.record.specs.Choose.{both, among}
+use Rattle.record.specs.Choose.{both}
 use Rattle.record.specs.Bytes.{size, byteOf, spanOf, bigOf}
 use Rattle.fields.specs.Fields.{kindAt, categoryOk, typeOf, typeAt, finite, valueOk, functionOk, zeros, plainOk, sectionOk, comparesOk, obligationOk, rulesOf, fieldOk}
 use Rattle.fields.specs.Entries.{entryOk}
-use Rattle.fields.specs.Known.{Bytes, Valued, Compares, Known, KeptIsKnown, KnownEntry, KeptEntryIsKnown}
+use Rattle.fields.specs.Known.{Bytes, Valued, Compares, KeptIsKnown, KeptEntryIsKnown}
 use Rattle.fields.specs.declared.Kind.{Kind}
 use Rattle.fields.specs.declared.Kind.the-variants.{PolicySet, Policy, Rule, Section, Conjunction, Match, Logic, Not, Comparison, Obligation, Nothing}
 use Rattle.fields.specs.declared.Sort.{Sort}
-use Rattle.fields.specs.declared.Sort.the-variants.{Name, Double, Other}
 use Rattle.fields.proofs.First.{both-left, both-right}
 
 absurd-bool : {A : Type 0} → false ≡ true → A
@@ -28,9 +27,9 @@ category-is c e = (leb-true 1 c (both-left (leb 1 c) (leb c 4) e), leb-true c 4 
 exponent : (b : List ℕ) (i : ℕ) → Bytes b → bigOf b (i * size + 8) 8 / 4503599627370496 % 2048 ≡ byteOf b i 8 % 128 * 16 + byteOf b i 9 / 16
 unfolding bigOf
 exponent b i h =
-    let x1 : i * 16 + 8 + 1 ≡ i * 16 + 9 = omega arith in
-    rw (add-zero (i * 16 + 8), x1)
-    (omega (arith, h (i * 16 + 8), h (i * 16 + 9), h (i * 16 + 8 + 2), h (i * 16 + 8 + 3), h (i * 16 + 8 + 4), h (i * 16 + 8 + 5), h (i * 16 + 8 + 6), h (i * 16 + 8 + 7)))
+    let x1 : i * size + 8 + 1 ≡ i * size + 9 = omega arith in
+    rw (add-zero (i * size + 8), x1)
+    (omega (arith, h (i * size + 8), h (i * size + 9), h (i * size + 8 + 2), h (i * size + 8 + 3), h (i * size + 8 + 4), h (i * size + 8 + 5), h (i * size + 8 + 6), h (i * size + 8 + 7)))
 
 valued : (b : List ℕ) (i : ℕ) (t : Sort) → Bytes b → valueOk t (finite b i) ≡ true → Valued b i t
 unfolding finite
@@ -63,14 +62,14 @@ compares b i f h e =
 
 plain-span : (b : List ℕ) (i s : ℕ) → plainOk b i s ≡ true → s ≤ spanOf b i
 unfolding plainOk
-plain-span b i s e = leb-true s (spanOf b i) (both-left (leb s (spanOf b i)) (zeros b i 4 16) e)
+plain-span b i s e = leb-true s (spanOf b i) (both-left (leb s (spanOf b i)) (zeros b i 4 size) e)
 
 section-is : (b : List ℕ) (i : ℕ) → sectionOk b i ≡ true → (2 ≤ spanOf b i) × ((1 ≤ byteOf b i 4) × (byteOf b i 4 ≤ 4))
 unfolding sectionOk
 section-is b i e =
     let s : Bool = leb 2 (spanOf b i) in
     let c : Bool = categoryOk (byteOf b i 4) in
-    let z : Bool = zeros b i 5 16 in
+    let z : Bool = zeros b i 5 size in
     (leb-true 2 (spanOf b i) (both-left s (both c z) e), category-is (byteOf b i 4) (both-left c z (both-right s (both c z) e)))
 
 alone-compares : (b : List ℕ) (i f : ℕ) → comparesOk b i f ≡ true → spanOf b i ≡ 1

@@ -1,5 +1,5 @@
 -- Laws of the field rules: one for each return of the functions that test them. Assumes nothing.
-use mathlib.Core.Path.{_≡_, refl, sym, ap, _∙_}
+use mathlib.Core.Path.{_≡_, refl, ap, _∙_}
 use mathlib.Core.Bool.{Bool, true, false}
 use mathlib.Core.List.{List}
 use Prim.Native.Nat.{ℕ, zero, suc, _+_, _-_, _*_, _≤_, _<_}
@@ -57,7 +57,7 @@ all-big b at (suc n) = rw (all-big b at n, sum-zero (bigOf b at n) (getD b (at +
 
 pub zeros-big : (b : List ℕ) (i a z : ℕ) → zeros b i a z ≡ eqb (bigOf b (i * size + a) (z - a)) 0
 unfolding zeros
-zeros-big b i a z = all-same _ _ (z - a) (λ j. same-byte b (i * 16 + (a + j)) (i * 16 + a + j) (omega arith)) ∙ all-big b (i * 16 + a) (z - a)
+zeros-big b i a z = all-same _ _ (z - a) (λ j. same-byte b (i * size + (a + j)) (i * size + a + j) (omega arith)) ∙ all-big b (i * size + a) (z - a)
 
 zeros-split : (b : List ℕ) (i a m n : ℕ) → zeros b i a (a + m + n) ≡ both (zeros b i a (a + m)) (zeros b i (a + m) (a + m + n))
 unfolding zeros
@@ -67,7 +67,7 @@ zeros-split b i a m n =
     let z : a + m + n - (a + m) ≡ n = omega arith in
     let F : ℕ → Bool = λ (j : ℕ). eqb (byteOf b i (a + j)) 0 in
     let s : allBelow (λ (j : ℕ). F (m + j)) n ≡ allBelow (λ (j : ℕ). eqb (byteOf b i (a + m + j)) 0) n =
-    all-same _ _ n (λ j. same-byte b (i * 16 + (a + (m + j))) (i * 16 + (a + m + j)) (omega arith)) in
+    all-same _ _ n (λ j. same-byte b (i * size + (a + (m + j))) (i * size + (a + m + j)) (omega arith)) in
     rw (x, y, z) (all-split F m n ∙ ap (both (allBelow F m)) s)
 
 zeros-one : (b : List ℕ) (i a : ℕ) → zeros b i a (a + 1) ≡ eqb (byteOf b i a) 0
@@ -80,7 +80,7 @@ zeros-one b i a =
 -- the bytes from 8 on as a number y
 module _ (b : List ℕ) (i : ℕ) {y : ℕ} (ey : y ≡ bigOf b (i * size + 8) 8) where
   back : zeros b i 8 size ≡ eqb y 0
-  back = rw (zeros-big b i 8 16, ← ey)
+  back = rw (zeros-big b i 8 size, ← ey)
 
   from-4 : {x : ℕ} → x ≡ bigOf b (i * size + 4) 4 → zeros b i 4 size ≡ both (eqb x 0) (eqb y 0)
   from-4 ex = rw (zeros-split b i 4 4 8, back, zeros-big b i 4 8, ← ex)

@@ -1,6 +1,6 @@
 -- Tests of the numbers below n: all pass, how many pass, the last that passes; and the first that fails. Assumes nothing.
 use Prim.Native.Nat.{ℕ, zero, suc, _+_}
-use mathlib.Core.Bool.{Bool, true, false}
+use mathlib.Core.Bool.{Bool, true}
 use Rattle.record.specs.Choose.{if, both}
 
 -- f passes at every number below n

@@ -4,11 +4,13 @@ use record::big4;
 use record::big8;
 use record::byte;
 use record::span;
+use record::SIZE;
 ghost use mathlib.Core.Path.{_≡_};
 ghost use Prim.Native.Nat.{_+_, _*_, _-_, _<_, _≤_};
 ghost use lib.Dec.{eqb};
 ghost use lib.ListN.{length};
 ghost use Rattle.record.specs.Choose.{if, among};
+ghost use Rattle.record.specs.Bytes.{size};
 ghost use Rattle.fields.specs.First.{firstFrom};
 ghost use Rattle.fields.specs.Fields.{kindOf, kindAt, categoryOk, typeOf, typeAt, finite, valueOk, functionOk, plainOk, sectionOk, comparesOk, obligationOk, rulesOf, fieldOk, obligationsOf};
 ghost use Rattle.fields.specs.Entries.{entryOk};
@@ -71,7 +73,7 @@ pub fn kind_of(k: usize, c: usize) -> Kind
 
 // What record i is.
 pub fn kind_at(book: &[u8], i: usize) -> Kind
-    requires { ⌜ (i + 1) * 16 ≤ length (now book) ⌝ }
+    requires { ⌜ (i + 1) * size ≤ length (now book) ⌝ }
     ensures { λ r. ⌜ r ≡ kindAt (now (book .entry)) i ⌝ }
 {
     kind_of(byte(book, i, 0), byte(book, i, 1))
@@ -99,14 +101,14 @@ fn type_of(t: usize) -> Sort
 
 // The type of record i.
 pub fn type_at(book: &[u8], i: usize) -> Sort
-    requires { ⌜ (i + 1) * 16 ≤ length (now book) ⌝ }
+    requires { ⌜ (i + 1) * size ≤ length (now book) ⌝ }
     ensures { λ r. ⌜ r ≡ typeAt (now (book .entry)) i ⌝ }
 {
     type_of(byte(book, i, 5) % 128)
 }
 
 fn is_finite(book: &[u8], i: usize) -> bool
-    requires { ⌜ (i + 1) * 16 ≤ length (now book) ⌝ }
+    requires { ⌜ (i + 1) * size ≤ length (now book) ⌝ }
     ensures { λ r. ⌜ r ≡ finite (now (book .entry)) i ⌝ }
 {
     byte(book, i, 8) % 128 * 16 + byte(book, i, 9) / 16 != 2047
@@ -135,20 +137,20 @@ fn function_ok(t: Sort, f: usize) -> bool
 }
 
 fn plain_ok(book: &[u8], i: usize, s: usize) -> bool
-    requires { ⌜ (i + 1) * 16 ≤ length (now book) ⌝ }
+    requires { ⌜ (i + 1) * size ≤ length (now book) ⌝ }
     ensures { λ r. ⌜ r ≡ plainOk (now (book .entry)) i s ⌝ }
 {
     if span(book, i) < s {
         return false;
     }
-    if big4(book, i * 16 + 4) != 0 {
+    if big4(book, i * SIZE + 4) != 0 {
         return false;
     }
-    big8(book, i * 16 + 8) == 0
+    big8(book, i * SIZE + 8) == 0
 }
 
 fn section_ok(book: &[u8], i: usize) -> bool
-    requires { ⌜ (i + 1) * 16 ≤ length (now book) ⌝ }
+    requires { ⌜ (i + 1) * size ≤ length (now book) ⌝ }
     ensures { λ r. ⌜ r ≡ sectionOk (now (book .entry)) i ⌝ }
 {
     if span(book, i) < 2 {
@@ -160,14 +162,14 @@ fn section_ok(book: &[u8], i: usize) -> bool
     if byte(book, i, 5) != 0 {
         return false;
     }
-    if big2(book, i * 16 + 6) != 0 {
+    if big2(book, i * SIZE + 6) != 0 {
         return false;
     }
-    big8(book, i * 16 + 8) == 0
+    big8(book, i * SIZE + 8) == 0
 }
 
 fn compares_ok(book: &[u8], i: usize, f: usize) -> bool
-    requires { ⌜ (i + 1) * 16 ≤ length (now book) ⌝ }
+    requires { ⌜ (i + 1) * size ≤ length (now book) ⌝ }
     ensures { λ r. ⌜ r ≡ comparesOk (now (book .entry)) i f ⌝ }
 {
     let t = type_at(book, i);
@@ -184,16 +186,16 @@ fn compares_ok(book: &[u8], i: usize, f: usize) -> bool
 }
 
 fn obligation_ok(book: &[u8], i: usize) -> bool
-    requires { ⌜ (i + 1) * 16 ≤ length (now book) ⌝ }
+    requires { ⌜ (i + 1) * size ≤ length (now book) ⌝ }
     ensures { λ r. ⌜ r ≡ obligationOk (now (book .entry)) i ⌝ }
 {
     if span(book, i) != 1 {
         return false;
     }
-    if big2(book, i * 16 + 4) != 0 {
+    if big2(book, i * SIZE + 4) != 0 {
         return false;
     }
-    big8(book, i * 16 + 8) == 0
+    big8(book, i * SIZE + 8) == 0
 }
 
 fn less_ten(c: usize) -> usize
@@ -206,7 +208,7 @@ fn less_ten(c: usize) -> usize
 }
 
 fn rules(book: &[u8], i: usize, k: Kind) -> bool
-    requires { ⌜ (i + 1) * 16 ≤ length (now book) ⌝ }
+    requires { ⌜ (i + 1) * size ≤ length (now book) ⌝ }
     ensures { λ r. ⌜ r ≡ rulesOf (now (book .entry)) i k ⌝ }
 {
     match k {
@@ -226,7 +228,7 @@ fn rules(book: &[u8], i: usize, k: Kind) -> bool
 
 // The field rules of record i.
 pub fn field_ok(book: &[u8], i: usize) -> bool
-    requires { ⌜ (i + 1) * 16 ≤ length (now book) ⌝ }
+    requires { ⌜ (i + 1) * size ≤ length (now book) ⌝ }
     ensures { λ r. ⌜ r ≡ fieldOk (now (book .entry)) i ⌝ }
 {
     rules(book, i, kind_at(book, i))
@@ -250,7 +252,7 @@ pub struct Kept {
 
 // How many of n records keep the field rules before one breaks them.
 pub fn first_field(book: &[u8], n: usize) -> Kept
-    requires { ⌜ n * 16 ≤ length (now book) ⌝ }
+    requires { ⌜ n * size ≤ length (now book) ⌝ }
     ensures { λ r. ⌜ (r .records ≡ firstFrom (fieldOk (now (book .entry))) 0 n) × (r .records ≤ n) × (r .obligations ≡ obligationsOf (now (book .entry)) (r .records)) ⌝ }
 {
     let mut records: usize = 0;
@@ -273,7 +275,7 @@ pub fn first_field(book: &[u8], n: usize) -> Kept
 
 // The field rules of entry i.
 fn entry_ok(request: &[u8], i: usize) -> bool
-    requires { ⌜ (i + 1) * 16 ≤ length (now request) ⌝ }
+    requires { ⌜ (i + 1) * size ≤ length (now request) ⌝ }
     ensures { λ r. ⌜ r ≡ entryOk (now (request .entry)) i ⌝ }
 {
     if !category_ok(byte(request, i, 0)) {
@@ -282,12 +284,12 @@ fn entry_ok(request: &[u8], i: usize) -> bool
     if !value_ok(type_of(byte(request, i, 1)), is_finite(request, i)) {
         return false;
     }
-    big4(request, i * 16 + 4) == 0
+    big4(request, i * SIZE + 4) == 0
 }
 
 // The first of n entries that breaks a field rule; n where none does.
 pub fn first_entry(request: &[u8], n: usize) -> usize
-    requires { ⌜ n * 16 ≤ length (now request) ⌝ }
+    requires { ⌜ n * size ≤ length (now request) ⌝ }
     ensures { λ r. ⌜ (r ≡ firstFrom (entryOk (now (request .entry))) 0 n) × (r ≤ n) ⌝ }
 {
     let mut i: usize = 0;

@@ -1,13 +1,12 @@
 -- A book's judgement, exactly when: the theorems of `specs/Exactly.antt`. Assumes nothing.
-use mathlib.Core.Path.{_≡_, refl, sym, ap, _∙_}
-use mathlib.Core.Bool.{Bool, true, false}
+use mathlib.Core.Path.{_≡_, refl, sym, _∙_}
+use mathlib.Core.Bool.{Bool}
 use mathlib.Core.List.{List}
 use Prim.Native.Nat.{ℕ, _+_, _*_, _/_, _%_, _≤_, _<_}
 use native.Mathlib.Omega.{arith}
 use lib.Dec.{ltb, eqb}
 use lib.ListN.{length}
 use borrow.Author.Tests.{lt-ltb, le-ltb, ltb-true, ltb-false, eq-eqb, ne-eqb, eqb-true, eqb-false}
-use Rattle.record.specs.Choose.{if}
 use Rattle.record.specs.Bytes.{size, mostRecords}
 use Rattle.record.specs.Refusals.{book, noRecord, cutShort, tooMany, badField}
 use Rattle.record.specs.declared.Refusal.{Refusal}
@@ -90,11 +89,11 @@ refused-breaks b r e = go (answer b)
 sized-judged : (b : List ℕ) (n : ℕ) → Sized b n → judgeOf b ≡ judgeRecords b n
 unfolding judgeOf
 sized-judged b n s =
-    let m : length b / 16 ≡ n = omega (arith, s .bytes) in
+    let m : length b / size ≡ n = omega (arith, s .bytes) in
     rw (
       ne-eqb (length b) 0 (λ x. omega (arith, s .bytes, s .some)),
-      none-ltb (length b % 16) (omega (arith, s .bytes)),
-      le-ltb 16000 (length b) (omega (arith, s .bytes, s .most)),
+      none-ltb (length b % size) (omega (arith, s .bytes)),
+      le-ltb (mostRecords * size) (length b) (omega (arith, s .bytes, s .most)),
       m,
     )
 
@@ -107,8 +106,8 @@ kept-is-accepted b n k =
 pub broken-is-refused : BrokenIsRefused
 unfolding judgeOf judgeRecords
 broken-is-refused b r (empty er e) = rw (er, eq-eqb (length b) 0 e)
-broken-is-refused b r (cut er e) = rw (er, ne-eqb (length b) 0 (λ x. e (omega arith)), some-ltb (length b % 16) e)
-broken-is-refused b r (many er e l) = rw (er, ne-eqb (length b) 0 (λ x. omega arith), none-ltb (length b % 16) e, lt-ltb 16000 (length b) l)
+broken-is-refused b r (cut er e) = rw (er, ne-eqb (length b) 0 (λ x. e (omega arith)), some-ltb (length b % size) e)
+broken-is-refused b r (many er e l) = rw (er, ne-eqb (length b) 0 (λ x. omega arith), none-ltb (length b % size) e, lt-ltb (mostRecords * size) (length b) l)
 broken-is-refused b r (field n i er s w) =
     sized-judged b n s ∙ rw (er, break-first (fieldOk b) n i w, lt-ltb i n (w .inside))
 broken-is-refused b r (place n i er s k w) =

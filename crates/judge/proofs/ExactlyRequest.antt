@@ -1,13 +1,11 @@
 -- A request's judgement, exactly when: the theorems of `specs/ExactlyRequest.antt`. Assumes nothing.
 use mathlib.Core.Path.{_≡_, refl, sym, _∙_}
-use mathlib.Core.Bool.{Bool, true, false}
 use mathlib.Core.List.{List}
-use Prim.Native.Nat.{ℕ, _+_, _*_, _/_, _%_, _≤_, _<_}
+use Prim.Native.Nat.{ℕ, _+_, _*_, _/_, _%_}
 use native.Mathlib.Omega.{arith}
 use lib.Dec.{ltb}
 use lib.ListN.{length}
 use borrow.Author.Tests.{lt-ltb, le-ltb, ltb-true, ltb-false}
-use Rattle.record.specs.Choose.{if}
 use Rattle.record.specs.Bytes.{size, mostEntries}
 use Rattle.record.specs.Refusals.{request, cutShort, tooMany, badField}
 use Rattle.record.specs.declared.Refusal.{Refusal}
@@ -69,8 +67,8 @@ refused-request-breaks q r e = go (answer q)
 sized-judged : (q : List ℕ) (n : ℕ) → SizedRequest q n → judgeRequestOf q ≡ judgeEntries q n
 unfolding judgeRequestOf
 sized-judged q n s =
-    let m : length q / 16 ≡ n = omega (arith, s .bytes) in
-    rw (none-ltb (length q % 16) (omega (arith, s .bytes)), le-ltb 1024 (length q) (omega (arith, s .bytes, s .most)), m)
+    let m : length q / size ≡ n = omega (arith, s .bytes) in
+    rw (none-ltb (length q % size) (omega (arith, s .bytes)), le-ltb (mostEntries * size) (length q) (omega (arith, s .bytes, s .most)), m)
 
 pub kept-request-is-accepted : KeptRequestIsAccepted
 unfolding judgeEntries
@@ -78,6 +76,6 @@ kept-request-is-accepted q n k = sized-judged q n (k .sized) ∙ rw (le-ltb (fir
 
 pub broken-request-is-refused : BrokenRequestIsRefused
 unfolding judgeRequestOf judgeEntries
-broken-request-is-refused q r (cut er e) = rw (er, some-ltb (length q % 16) e)
-broken-request-is-refused q r (many er e l) = rw (er, none-ltb (length q % 16) e, lt-ltb 1024 (length q) l)
+broken-request-is-refused q r (cut er e) = rw (er, some-ltb (length q % size) e)
+broken-request-is-refused q r (many er e l) = rw (er, none-ltb (length q % size) e, lt-ltb (mostEntries * size) (length q) l)
 broken-request-is-refused q r (field n i er s w) = sized-judged q n s ∙ rw (er, break-first (entryOk q) n i w, lt-ltb i n (w .inside))

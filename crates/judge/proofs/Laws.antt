@@ -16,8 +16,9 @@ use Rattle.fields.specs.Fields.{kindAt, fieldOk, obligationsOf}
 use Rattle.fields.specs.declared.Kind.{Kind}
 use Rattle.fields.proofs.First.{by, last-is, last-ge, last-of, count-skip, count-one, count-same, first-none, first-here, first-next, first-le, first-past, first-in, first-all}
 use Rattle.fields.proofs.Known.{span-pos}
-use Rattle.judge.specs.Place.{endOf, covers, parentOf, elderOf, depthOf, numberOf, takesOf, stepOf, underOk, rankOf, rankAt, elderRank, standsOk, childRule, childBroken, topOk, brokenAt, placeOk}
+use Rattle.judge.specs.Place.{mostDepth, endOf, covers, parentOf, elderOf, depthOf, numberOf, takesOf, stepOf, underOk, rankOf, rankAt, elderRank, standsOk, childRule, childBroken, topOk, brokenAt, placeOk}
 use Rattle.judge.specs.Walk.{Walk, Finds}
+use Rattle.judge.specs.Sound.{ParentIs}
 use Rattle.judge.specs.declared.Judged.the-variants.{Accepted}
 
 pub span-end : (b : List ℕ) (i s : ℕ) → s ≡ spanOf b i → endOf b i ≡ i + s
@@ -41,25 +42,32 @@ apart : (a c : ℕ) → (a ≡ c) ⊎ ((a < c) ⊎ (c < a))
 apart a c = by (ltb a c) (λ t. inr (inl (ltb-true a c t)))
     (λ t. ⊎-elim (λ (q : c ≡ a). inl (sym q)) (λ (q : c < a). inr (inr q)) (eq-or-lt-of-le (ltb-false a c t)))
 
+-- where p covers i, and no record between does, p is the parent; i is one deeper where what covers p covers i
+pub parent-is-innermost : ParentIs
+unfolding parentOf
+parent-is-innermost b p i h c g = last-is (covers b i) i p h (lt-ltb i (endOf b p) c) (λ j a z. le-ltb i (endOf b j) (g j a z))
+
+pub depth-under : (b : List ℕ) (p i : ℕ) → p < i → i < endOf b p → ((j : ℕ) → p < j → j < i → endOf b j ≤ i)
+    → ((j : ℕ) → j < p → p < endOf b j → i < endOf b j) → depthOf b i ≡ depthOf b p + 1
+unfolding depthOf
+depth-under b p i h c g o =
+    let skip : countBelow (covers b i) i ≡ countBelow (covers b i) (p + 1) =
+    count-skip (covers b i) i (p + 1) (omega arith) (λ j a z. le-ltb i (endOf b j) (g j (omega arith) z)) in
+    let one : countBelow (covers b i) (p + 1) ≡ countBelow (covers b i) p + 1 = count-one (covers b i) p (lt-ltb i (endOf b p) c) in
+    let same : countBelow (covers b i) p ≡ countBelow (covers b p) p =
+    count-same (covers b i) (covers b p) p (λ j z. by (ltb p (endOf b j))
+    (λ t. lt-ltb i (endOf b j) (o j z (ltb-true p (endOf b j) t)) ∙ sym t)
+    (λ t. le-ltb i (endOf b j) (omega (arith, ltb-false p (endOf b j) t)) ∙ sym t)) in
+    omega arith
+
 module _ (b : List ℕ) {p i e d pn gc pc er : ℕ} (w : Walk b p i e d pn gc pc er) (l : i < e) where
   parent-is : parentOf b i ≡ p
-  unfolding parentOf
-  parent-is =
-      last-is (covers b i) i p (w .after) (lt-ltb i (endOf b p) (omega (arith, w .ends)))
-      (λ j a z. le-ltb i (endOf b j) (w .inner j a z))
+  parent-is = parent-is-innermost b p i (w .after) (omega (arith, w .ends)) (w .inner)
 
   depth-is : depthOf b i ≡ d + 1
-  unfolding depthOf
   depth-is =
-      let skip : countBelow (covers b i) i ≡ countBelow (covers b i) (p + 1) =
-      count-skip (covers b i) i (p + 1) (omega (arith, w .after)) (λ j a z. le-ltb i (endOf b j) (w .inner j (omega arith) z)) in
-      let one : countBelow (covers b i) (p + 1) ≡ countBelow (covers b i) p + 1 =
-      count-one (covers b i) p (lt-ltb i (endOf b p) (omega (arith, w .ends))) in
-      let same : countBelow (covers b i) p ≡ countBelow (covers b p) p =
-      count-same (covers b i) (covers b p) p (λ j z. by (ltb p (endOf b j))
-      (λ t. lt-ltb i (endOf b j) (omega (arith, w .outer j z (ltb-true p (endOf b j) t))) ∙ sym t)
-      (λ t. le-ltb i (endOf b j) (omega (arith, ltb-false p (endOf b j) t, w .after)) ∙ sym t)) in
-      omega (arith, w .depth)
+      depth-under b p i (w .after) (omega (arith, w .ends)) (w .inner) (λ j z c. omega (arith, w .outer j z c))
+      ∙ omega (arith, w .depth)
 
   elder-is : elderOf b p i ≡ w .elder
   unfolding elderOf parentOf
@@ -104,9 +112,9 @@ tests true false u e = absurd (omega arith)
 tests false t u e = absurd (omega arith)
 
 -- a child that breaks no rule
-rule-none : (end top d : ℕ) (t : Bool) → childRule end top d t ≡ 0 → (end ≤ top) × (t ≡ true) × (d ≤ 16)
+rule-none : (end top d : ℕ) (t : Bool) → childRule end top d t ≡ 0 → (end ≤ top) × (t ≡ true) × (d ≤ mostDepth)
 unfolding childRule
-rule-none end top d t e = let w = tests (leb end top) t (leb d 16) e in (leb-true end top (w .0), w .1, leb-true d 16 (w .2))
+rule-none end top d t e = let w = tests (leb end top) t (leb d mostDepth) e in (leb-true end top (w .0), w .1, leb-true d mostDepth (w .2))
 
 -- a child that may stand there: its parent takes it, it comes after the child before, and a match has its section's category
 both-parts : (s t u : Bool) → both s (both t u) ≡ true → (s ≡ true) × (t ≡ true) × (u ≡ true)
@@ -121,15 +129,15 @@ stands-parts p k c e g x =
     let w = both-parts (takesOf p k) (leb (e + stepOf p k) (rankOf k c)) (underOk k g c) x in
     (w .0, leb-true (e + stepOf p k) (rankOf k c) (w .1), w .2)
 
-pub rule-zero : (end top d : ℕ) (t : Bool) → end ≤ top → t ≡ true → d ≤ 16 → childRule end top d t ≡ 0
+pub rule-zero : (end top d : ℕ) (t : Bool) → end ≤ top → t ≡ true → d ≤ mostDepth → childRule end top d t ≡ 0
 unfolding childRule
-rule-zero end top d t h e g = rw (le-leb end top h, e, le-leb d 16 g)
+rule-zero end top d t h e g = rw (le-leb end top h, e, le-leb d mostDepth g)
 
 -- what a record that keeps the rules says of its parent
 pub kept-at : (b : List ℕ) (j : ℕ) → 0 < j → placeOk b j ≡ true
     → (endOf b j ≤ endOf b (parentOf b j))
     × (standsOk (numberOf (kindAt b (parentOf b j))) (kindAt b j) (byteOf b j 4) (elderRank b (parentOf b j) (elderOf b (parentOf b j) j)) (byteOf b (parentOf b (parentOf b j)) 4) ≡ true)
-    × (depthOf b j ≤ 16)
+    × (depthOf b j ≤ mostDepth)
 unfolding placeOk brokenAt childBroken
 kept-at b j h e =
     let t : childBroken b (parentOf b j) j ≡ 0 = rw (ne-eqb j 0 (λ x. omega arith)) at (eqb-true (brokenAt b j) 0 e) in
@@ -186,11 +194,10 @@ module _ (b : List ℕ) {p i e d pn gc pc er : ℕ} {k : Kind} {c end : ℕ} (h 
   w : Walk b p i e d pn gc pc er
   w = h .walk
 
-  pub bounds : (i < end) × (end ≤ e) × (d < 16)
+  pub bounds : (i < end) × (end ≤ e) × (d < mostDepth)
   bounds =
       let y = kept-at b i (omega (arith, w .after)) (h .ok) in
-      let x = ap (endOf b) (parent-is b w (h .inside)) in
-      (
+      let x = ap (endOf b) (parent-is b w (h .inside)) in (
         omega (arith, h .ends, end-after b i (w .spans i (h .inside))),
         omega (arith, h .ends, y .0, x, w .ends),
         omega (arith, y .2, depth-is b w (h .inside)),
@@ -275,7 +282,7 @@ module _ (b : List ℕ) {p i e d pn gc pc er : ℕ} {k : Kind} {c end : ℕ} (h 
           ev ∙ first-next (placeOk b) i (e - i) (e - (i + 1)) (omega arith) (h .ok) ∙ (rw (m, n) at s)
 
 -- line 1
-module _ (b : List ℕ) {n m : ℕ} {k : Kind} {u : Bool} (h : 0 < n) (el : length b ≡ n * 16) (ek : k ≡ kindAt b 0) (em : m ≡ numberOf k) (eu : u ≡ among 1 2 m) where
+module _ (b : List ℕ) {n m : ℕ} {k : Kind} {u : Bool} (h : 0 < n) (el : length b ≡ n * size) (ek : k ≡ kindAt b 0) (em : m ≡ numberOf k) (eu : u ≡ among 1 2 m) where
   top-not : topOk b ≡ false → Finds b 0 n 0 9
   unfolding placeOk brokenAt
   top-not x = record { place = sym (first-here (placeOk b) 0 n h (rw x)); which = λ z. rw x }
@@ -287,12 +294,12 @@ module _ (b : List ℕ) {n m : ℕ} {k : Kind} {u : Bool} (h : 0 < n) (el : leng
   module _ (t : u ≡ true) {s : ℕ} (es : s ≡ spanOf b 0) where
     pub top-span : (s ≡ n → ⊥) → Finds b 0 n 0 9
     unfolding topOk
-    top-span x = top-not (rw (← ek, ← em, ← eu, t, ← es) (ne-eqb s (length b / 16) (λ y. x (omega arith))))
+    top-span x = top-not (rw (← ek, ← em, ← eu, t, ← es) (ne-eqb s (length b / size) (λ y. x (omega arith))))
 
     module _ (x : s ≡ n) where
       top-ok : placeOk b 0 ≡ true
       unfolding placeOk brokenAt topOk
-      top-ok = rw (← ek, ← em, ← eu, t, ← es, eq-eqb s (length b / 16) (omega arith))
+      top-ok = rw (← ek, ← em, ← eu, t, ← es, eq-eqb s (length b / size) (omega arith))
 
       pub top-rest : {r y : ℕ} → Finds b 1 (n - 1) r y → Finds b 0 n r y
       top-rest f = record {

@@ -3,3 +3,5 @@ pub mod Laws
 pub mod Exactly
 pub mod ExactlyRequest
 pub mod Sound
+pub mod Unique
+mod Examples

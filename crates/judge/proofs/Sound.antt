@@ -3,26 +3,26 @@ use mathlib.Core.Path.{_≡_, refl, sym, ap, _∙_}
 use mathlib.Core.Bool.{Bool, true, false}
 use mathlib.Core.List.{List}
 use mathlib.Core.Logic.{⊎-elim}
-use Prim.Native.Nat.{ℕ, zero, suc, _+_, _-_, _*_, _/_, _≤_, _<_}
+use Prim.Native.Nat.{ℕ, zero, suc, _+_, _-_, _/_, _≤_, _<_}
 use native.Mathlib.Nat.{eq-or-lt-of-le}
 use native.Mathlib.Omega.{arith}
-use lib.Dec.{ltb, leb, eqb}
+use lib.Dec.{ltb, eqb}
 use lib.ListN.{length}
-use borrow.Author.Tests.{lt-ltb, le-ltb, ltb-true, ltb-false, eq-eqb, ne-eqb, eqb-true}
-use Rattle.record.specs.Choose.{if, both, either, among}
+use borrow.Author.Tests.{lt-ltb, ltb-false, eq-eqb, ne-eqb, eqb-true, eqb-false}
+use Rattle.record.specs.Choose.{if, either, among}
 use Rattle.record.specs.Bytes.{size, byteOf, spanOf}
-use Rattle.record.specs.Forest.{Forest, none, node, spanIn, growF, forest}
+use Rattle.record.specs.Forest.{spanIn, growF, forest}
 use Rattle.record.proofs.Forests.{forest-none, forest-step}
 use Rattle.fields.specs.First.{lastBelow, countBelow}
 use Rattle.fields.specs.Fields.{kindAt, fieldOk}
 use Rattle.fields.specs.declared.Kind.{Kind}
 use Rattle.fields.specs.declared.Kind.the-variants.{PolicySet, Policy, Rule, Section, Conjunction, Match, Logic, Not, Comparison, Obligation, Nothing}
-use Rattle.fields.proofs.First.{by, both-right, last-is, last-ge, last-of, count-skip, count-one, count-same}
+use Rattle.fields.proofs.First.{by, both-right, last-ge, last-of}
 use Rattle.fields.proofs.Known.{span-pos, category-pos}
-use Rattle.judge.specs.Place.{endOf, covers, parentOf, depthOf, numberOf, singleOf, takesOf, elderOf, elderRank, rankOf, rankAt, stepOf, underOk, standsOk, childBroken, topOk, brokenAt, placeOk}
+use Rattle.judge.specs.Place.{endOf, covers, parentOf, depthOf, numberOf, singleOf, elderOf, elderRank, rankOf, rankAt, stepOf, underOk, standsOk, childBroken, topOk, brokenAt, placeOk}
 use Rattle.judge.specs.Exactly.{AllKeep, Sized, Keeps}
-use Rattle.judge.specs.Sound.{Nested, Row, KeptNests, OneTree, stated, NoCut, ParentIs, DepthIs, AfterAll, Placed, OkIsPlaced, PlacedIsOk, KeptInOrder}
-use Rattle.judge.proofs.Laws.{ends-within, parent-ge, parent-of, kept-at, stands-parts, all-but, rule-zero}
+use Rattle.judge.specs.Sound.{Nested, Row, KeptNests, OneTree, stated, NoCut, DepthIs, AfterAll, OkIsPlaced, PlacedIsOk, KeptInOrder}
+use Rattle.judge.proofs.Laws.{depth-under, ends-within, parent-ge, parent-of, kept-at, stands-parts, all-but, rule-zero}
 
 -- line 1 covers all
 top-true : (t : Bool) → _≡_ {A = ℕ} (if t 0 9) 0 → t ≡ true
@@ -33,7 +33,7 @@ whole-is : (b : List ℕ) (n : ℕ) → Sized b n → placeOk b 0 ≡ true → e
 unfolding placeOk brokenAt topOk endOf
 whole-is b n s e =
     let y : topOk b ≡ true = top-true (topOk b) (eqb-true (brokenAt b 0) 0 e) in
-    let x = eqb-true (spanOf b 0) (length b / 16) (both-right (among 1 2 (numberOf (kindAt b 0))) (eqb (spanOf b 0) (length b / 16)) y) in
+    let x = eqb-true (spanOf b 0) (length b / size) (both-right (among 1 2 (numberOf (kindAt b 0))) (eqb (spanOf b 0) (length b / size)) y) in
     omega (arith, s .bytes)
 
 depth-one : (b : List ℕ) → depthOf b 0 ≡ 1
@@ -117,25 +117,13 @@ one-tree b n w h =
     let s : spanIn b 0 n ≡ n = rw x at (span-is b w (omega arith) (row-all b w) (omega arith) v) in
     rw (forest-step b 0 n h, s, forest-none b (0 + n) (n - n) (omega arith))
 
--- parents and depths
-pub parent-is-innermost : ParentIs
-unfolding parentOf
-parent-is-innermost b p i h c g = last-is (covers b i) i p h (lt-ltb i (endOf b p) c) (λ j a z. le-ltb i (endOf b j) (g j a z))
-
 pub depth-is-next : DepthIs
-unfolding depthOf
 depth-is-next b n w i h l =
     let p : ℕ = parentOf b i in
     let o : (i < endOf b p) × (p < i) = parent-of b i 0 h (lt-ltb i (endOf b 0) (omega (arith, w .whole))) in
-    let skip : countBelow (covers b i) i ≡ countBelow (covers b i) (p + 1) =
-    count-skip (covers b i) i (p + 1) (omega arith)
-    (λ j a z. by (ltb i (endOf b j)) (λ t. absurd (omega (arith, parent-ge b i j z t))) (λ t. t)) in
-    let one : countBelow (covers b i) (p + 1) ≡ countBelow (covers b i) p + 1 = count-one (covers b i) p (lt-ltb i (endOf b p) (o .0)) in
-    let same : countBelow (covers b i) p ≡ countBelow (covers b p) p =
-    count-same (covers b i) (covers b p) p (λ j z. by (ltb p (endOf b j))
-    (λ t. lt-ltb i (endOf b j) (omega (arith, w .nests j p z (omega arith) (ltb-true p (endOf b j) t))) ∙ sym t)
-    (λ t. le-ltb i (endOf b j) (omega (arith, ltb-false p (endOf b j) t)) ∙ sym t)) in
-    omega arith
+    depth-under b p i (o .1) (o .0)
+    (λ j a z. by (ltb i (endOf b j)) (λ t. absurd (omega (arith, parent-ge b i j z t))) (λ t. ltb-false i (endOf b j) t))
+    (λ j z c. omega (arith, w .nests j p z (omega arith) c))
 
 -- record i stands after the child before it
 abbrev AfterElder : List ℕ → ℕ → Type 0
@@ -224,20 +212,26 @@ ok-is-placed b n i s h l ok e =
       depth = w .2;
     }
 
-module _ (b : List ℕ) (n i : ℕ) (s : Sized b n) (h : 0 < i) (l : i < n) (ok : AllKeep (placeOk b) i) (f : fieldOk b i ≡ true) (w : Placed b i) where
-  p : ℕ
-  p = parentOf b i
-
-  after-one : AfterElder b i
-  unfolding elderRank rankAt elder-test
-  after-one =
-      let cov : covers b i 0 ≡ true = lt-ltb i (endOf b 0) (omega (arith, whole-is b n s (ok 0 h))) in
-      let o = parent-of b i 0 h cov in
-      let q : ℕ = elderOf b (parentOf b i) i in
-      let v = elder-of b (parentOf b i) i (parentOf b i) (o .1) (simp (eq-eqb (parentOf b i) (parentOf b i) refl)) in
-      by (eqb q (parentOf b i))
-      (λ t. rw t (step-le (numberOf (kindAt b (parentOf b i))) (byteOf b i 4) (kindAt b i) (category-pos b i f)))
-      (λ t. rw t (w .after q ? (v .1) (v .2 ?)))
+-- a record that stands after all earlier children stands after the child before it
+after-one : (b : List ℕ) (n i : ℕ) → Sized b n → 0 < i → i < n → AllKeep (placeOk b) i → fieldOk b i ≡ true → AfterAll b i → AfterElder b i
+unfolding elderRank rankAt elder-test
+after-one b n i s h l ok f w =
+    let p : ℕ = parentOf b i in
+    let q : ℕ = elderOf b p i in
+    let o = parent-of b i 0 h (lt-ltb i (endOf b 0) (omega (arith, whole-is b n s (ok 0 h)))) in
+    let v = elder-of b p i p (o .1) (simp (eq-eqb p p refl)) in
+    by (eqb q p)
+    (λ t. rw t (omega (arith, step-le (numberOf (kindAt b p)) (byteOf b i 4) (kindAt b i) (category-pos b i f))))
+    (λ t. let g : q ≡ p → ⊥ = eqb-false q p t in rw t (w q (omega (arith, v .0)) (v .1) (v .2 g)))
 
 pub placed-is-ok : PlacedIsOk
-placed-is-ok = ?
+unfolding placeOk brokenAt childBroken rankAt
+placed-is-ok b n i s h l ok f w =
+    let p : ℕ = parentOf b i in
+    let e : ℕ = elderRank b p (elderOf b p i) in
+    let g : ℕ = byteOf b (parentOf b p) 4 in
+    let c : ℕ = byteOf b i 4 in
+    let x = after-one b n i s h l ok f (w .after) in
+    let y : standsOk (numberOf (kindAt b p)) (kindAt b i) c e g ≡ true =
+    sym (all-but (numberOf (kindAt b p)) (kindAt b i) c e g refl (w .taken) refl refl x refl) ∙ under-is (kindAt b i) g c (w .category) in
+    rw (ne-eqb i 0 (λ z. omega arith), rule-zero (endOf b i) (endOf b p) (depthOf b i) _ (w .within) y (w .depth))

@@ -1,6 +1,5 @@
 -- What a book's record bytes are judged: 3, 4, 2, the first line with 5, the first line with 6. Assumes nothing.
 use Prim.Native.Nat.{ℕ, _+_, _*_, _/_, _%_}
-use mathlib.Core.Bool.{Bool, true, false}
 use mathlib.Core.List.{List}
 use lib.Dec.{eqb, ltb}
 use lib.ListN.{length}

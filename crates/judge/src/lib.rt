@@ -5,16 +5,19 @@ ghost use mathlib.Core.Path.{_≡_};
 ghost use Prim.Native.Nat.{_+_, _*_, _-_, _<_, _≤_};
 ghost use lib.ListN.{length};
 ghost use Rattle.record.specs.Choose.{among};
+ghost use Rattle.record.specs.Bytes.{size};
 ghost use Rattle.fields.specs.First.{firstFrom};
 ghost use Rattle.fields.specs.Fields.{fieldOk};
-ghost use Rattle.judge.specs.Place.{numberOf, holdsConditions, singleOf, takesOf, rankOf, stepOf, underOk, standsOk, childRule};
+ghost use Rattle.judge.specs.Place.{mostDepth, numberOf, holdsConditions, singleOf, takesOf, rankOf, stepOf, underOk, standsOk, childRule};
 ghost use Rattle.judge.specs.Walk.{Walk, Finds};
 ghost use Rattle.judge.specs.Judge.{placeRefusal, judgeRecords, judgeOf};
 ghost use Rattle.judge.specs.Request.{judgeRequestOf};
 
 // A book has at most so many records, a request so many entries, nesting so many levels.
 const MOST_RECORDS: usize = 1000;
+
 const MOST_ENTRIES: usize = 64;
+
 const MOST_DEPTH: usize = 16;
 
 pub enum Judged {
@@ -27,6 +30,7 @@ pub enum JudgedRequest {
     Refused(Refusal),
 }
 
+// A number for each kind.
 fn number(k: Kind) -> usize
     ensures { λ r. ⌜ r ≡ numberOf k ⌝ }
 {
@@ -45,6 +49,7 @@ fn number(k: Kind) -> usize
     }
 }
 
+// Whether a parent of number p takes a condition.
 fn holds_conditions(p: usize) -> bool
     ensures { λ r. ⌜ r ≡ holdsConditions p ⌝ }
 {
@@ -57,6 +62,7 @@ fn holds_conditions(p: usize) -> bool
     p == 72
 }
 
+// 1 where it takes one condition only.
 fn single(p: usize) -> usize
     ensures { λ r. ⌜ (r ≡ singleOf p) × (r ≤ 1) ⌝ }
 {
@@ -69,6 +75,7 @@ fn single(p: usize) -> usize
     0
 }
 
+// Whether p is one of the numbers from 1 to high.
 fn up_to(p: usize, high: usize) -> bool
     ensures { λ r. ⌜ r ≡ among 1 high p ⌝ }
 {
@@ -136,8 +143,9 @@ fn step(p: usize, k: Kind) -> usize
     }
 }
 
-fn under_ok(k: Kind, g: usize, c: usize) -> bool
-    ensures { λ r. ⌜ r ≡ underOk k g c ⌝ }
+// Whether a match has the category of its section.
+fn under_ok(k: Kind, section: usize, c: usize) -> bool
+    ensures { λ r. ⌜ r ≡ underOk k section c ⌝ }
 {
     match k {
         Kind::PolicySet => true,
@@ -145,7 +153,7 @@ fn under_ok(k: Kind, g: usize, c: usize) -> bool
         Kind::Rule => true,
         Kind::Section => true,
         Kind::Conjunction => true,
-        Kind::Match => g == c,
+        Kind::Match => section == c,
         Kind::Logic => true,
         Kind::Not => true,
         Kind::Comparison => true,
@@ -154,23 +162,23 @@ fn under_ok(k: Kind, g: usize, c: usize) -> bool
     }
 }
 
-// Whether a child may stand there: p is its parent's number, e the rank of the child before, g the category of its parent's parent.
-fn stands(p: usize, k: Kind, c: usize, e: usize, g: usize) -> bool
-    requires { ⌜ (c < 256) × (e < 256) ⌝ }
-    ensures { λ r. ⌜ r ≡ standsOk p k c e g ⌝ }
+// Whether a child may stand there: `parent` is its parent's number, `before` the rank of the child before, `outer` the category of its parent's parent.
+fn stands(parent: usize, k: Kind, c: usize, before: usize, outer: usize) -> bool
+    requires { ⌜ (c < 256) × (before < 256) ⌝ }
+    ensures { λ r. ⌜ r ≡ standsOk parent k c before outer ⌝ }
 {
-    if !takes(p, k) {
+    if !takes(parent, k) {
         return false;
     }
-    if rank(k, c) < e + step(p, k) {
+    if rank(k, c) < before + step(parent, k) {
         return false;
     }
-    under_ok(k, g, c)
+    under_ok(k, outer, c)
 }
 
-// The rule that a child breaks which ends at `end`, `top` being its parent's end and d its parent's depth; 0 for none.
-fn child_rule(end: usize, top: usize, d: usize, ok: bool) -> usize
-    ensures { λ r. ⌜ r ≡ childRule end top (d + 1) ok ⌝ }
+// The rule that a child breaks which ends at `end`, `top` being its parent's end and `depth` its parent's depth; 0 for none.
+fn child_rule(end: usize, top: usize, depth: usize, ok: bool) -> usize
+    ensures { λ r. ⌜ r ≡ childRule end top (depth + 1) ok ⌝ }
 {
     if top < end {
         return 10;
@@ -178,7 +186,7 @@ fn child_rule(end: usize, top: usize, d: usize, ok: bool) -> usize
     if !ok {
         return 11;
     }
-    if MOST_DEPTH <= d {
+    if MOST_DEPTH <= depth {
         return 12;
     }
     0
@@ -190,29 +198,29 @@ struct Broken {
     rule: usize,
 }
 
-// The first of the records after p and below top that breaks a place rule, and which; top and 0 where none does. They are p's children, and
-// what stands below them; top is p's end, d its depth, pn and pc its number and category, gc the category of its parent.
-fn walk(book: &[u8], p: usize, top: usize, d: usize, pn: usize, gc: usize, pc: usize) -> Broken
-    requires { ⌜ (top * 16 ≤ length (now book)) × (p < top) × (d ≤ 16) × Walk (now book) p (p + 1) top d pn gc pc 0 ⌝ }
-    ensures { λ r. ⌜ Finds (now (book .entry)) (p + 1) (top - (p + 1)) (r .at) (r .rule) ⌝ }
+// The first of the records after `parent` and below `top` that breaks a place rule, and which; `top` and 0 where none does. They are the parent's
+// children, and what stands below them; `top` is its end, and `outer` the category of its own parent.
+fn walk(book: &[u8], parent: usize, top: usize, depth: usize, kind: usize, outer: usize, category: usize) -> Broken
+    requires { ⌜ (top * size ≤ length (now book)) × (parent < top) × (depth ≤ mostDepth) × Walk (now book) parent (parent + 1) top depth kind outer category 0 ⌝ }
+    ensures { λ r. ⌜ Finds (now (book .entry)) (parent + 1) (top - (parent + 1)) (r .at) (r .rule) ⌝ }
 {
-    let mut i = p + 1;
-    let mut er: usize = 0;
+    let mut i = parent + 1;
+    let mut before: usize = 0;
     while i < top {
         let k = fields::kind_at(book, i);
         let c = record::byte(book, i, 4);
         let next = i + record::span(book, i);
-        let rule = child_rule(next, top, d, stands(pn, k, c, er, gc));
+        let rule = child_rule(next, top, depth, stands(kind, k, c, before, outer));
         if rule != 0 {
             return Broken { at: i, rule };
         }
         let at = i;
-        er = rank(k, c);
+        before = rank(k, c);
         i = next;
         if next == at + 1 {
             continue;
         }
-        let bad = walk(book, at, next, d + 1, number(k), pc, c);
+        let bad = walk(book, at, next, depth + 1, number(k), category, c);
         if bad.at < next {
             return bad;
         }
@@ -222,7 +230,7 @@ fn walk(book: &[u8], p: usize, top: usize, d: usize, pn: usize, gc: usize, pc: u
 
 // The first of n records that breaks a place rule, and which; n and 0 where none does.
 fn first_place(book: &[u8], n: usize) -> Broken
-    requires { ⌜ (0 < n) × (length (now book) ≡ n * 16) × (firstFrom (fieldOk (now book)) 0 n ≡ n) ⌝ }
+    requires { ⌜ (0 < n) × (length (now book) ≡ n * size) × (firstFrom (fieldOk (now book)) 0 n ≡ n) ⌝ }
     ensures { λ r. ⌜ Finds (now (book .entry)) 0 n (r .at) (r .rule) ⌝ }
 {
     let k = number(fields::kind_at(book, 0));
@@ -243,8 +251,9 @@ fn place_refusal(rule: usize, line: usize) -> Refusal
     record::bad_place(line)
 }
 
+// The n records of a book of the right size.
 fn judge_records(book: &[u8], n: usize) -> Judged
-    requires { ⌜ (0 < n) × (length (now book) ≡ n * 16) ⌝ }
+    requires { ⌜ (0 < n) × (length (now book) ≡ n * size) ⌝ }
     ensures { λ r. ⌜ r ≡ judgeRecords (now (book .entry)) n ⌝ }
 {
     let kept = fields::first_field(book, n);

@@ -2,17 +2,14 @@
 use record::Refusal;
 ghost use mathlib.Core.Path.{_≡_};
 ghost use mathlib.Core.List.{[], _∷_, _++_};
-ghost use Prim.Native.Nat.{_+_, _*_, _≤_, min};
+ghost use Prim.Native.Nat.{_+_, _*_, _≤_};
 ghost use lib.ListN.{length, take};
-ghost use lib.Seq.{sets};
 ghost use Rattle.text.specs.Text.{lf};
-ghost use Rattle.line.specs.Line.{hexOf, fours, refusalLine, decisionLine, placesOf, put};
-
-const LF: u8 = 10;
+ghost use Rattle.line.specs.Line.{hexOf, fours, refusalLine, decisionLine, placesOf, put, stored};
 
 fn two_digits(out: &mut [u8], at: usize, n: usize)
     requires { ⌜ at + 2 ≤ length (now out) ⌝ }
-    ensures { λ _. ⌜ now (out .exit) ≡ sets (now (out .entry)) at (hexOf 2 n) ⌝ }
+    ensures { λ _. ⌜ now (out .exit) ≡ stored (now (out .entry)) at (hexOf 2 n) ⌝ }
 {
     out[at] = text::letter(n / 16);
     out[at + 1] = text::letter(n);
@@ -20,7 +17,7 @@ fn two_digits(out: &mut [u8], at: usize, n: usize)
 
 fn four_digits(out: &mut [u8], at: usize, n: usize)
     requires { ⌜ at + 4 ≤ length (now out) ⌝ }
-    ensures { λ _. ⌜ now (out .exit) ≡ sets (now (out .entry)) at (hexOf 4 n) ⌝ }
+    ensures { λ _. ⌜ now (out .exit) ≡ stored (now (out .entry)) at (hexOf 4 n) ⌝ }
 {
     two_digits(out, at, n / 256);
     two_digits(out, at + 2, n);
@@ -37,46 +34,46 @@ pub fn refusal_line(refusal: Refusal, out: &mut [u8]) -> usize
     two_digits(out, 2, refusal.number as usize);
     two_digits(out, 4, refusal.part as usize);
     four_digits(out, 6, refusal.line);
-    out[10] = LF;
+    out[10] = text::LF;
     11
 }
 
 // The obligations, four digits each, and LF, from place 6 on.
-fn obligations_line(obligations: &[u16], count: usize, out: &mut [u8])
-    requires { ⌜ (count ≤ length (now obligations)) × (7 + 4 * count ≤ length (now out)) ⌝ }
-    ensures { λ _. ⌜ now (out .exit) ≡ sets (now (out .entry)) 6 (fours (take count (now (obligations .entry))) ++ (lf ∷ [])) ⌝ }
+fn put_obligations(obligations: &[u16], out: &mut [u8])
+    requires { ⌜ 7 + 4 * length (now obligations) ≤ length (now out) ⌝ }
+    ensures { λ _. ⌜ now (out .exit) ≡ stored (now (out .entry)) 6 (fours (now (obligations .entry)) ++ (lf ∷ [])) ⌝ }
 {
     let mut i = 0;
-    while i < count {
+    while i < obligations.len() {
         four_digits(out, 6 + 4 * i, obligations[i] as usize);
         i += 1;
     }
-    out[6 + 4 * count] = LF;
+    out[6 + 4 * i] = text::LF;
 }
 
-// Puts the line of a decision with the first `count` obligations first into `out`, and answers its length. Where it does not fit nothing is put, and the
-// answer is 0.
-pub fn decision_line(decision: u8, obligations: &[u16], count: usize, out: &mut [u8]) -> usize
-    ensures { λ r. ⌜ (r ≡ placesOf (decisionLine decision (take count (now (obligations .entry)))) (length (now (out .entry)))) × (now (out .exit) ≡ put (decisionLine decision (take count (now (obligations .entry)))) (now (out .entry))) ⌝ }
+fn put_decision(decision: u8, obligations: &[u16], out: &mut [u8]) -> usize
+    ensures { λ r. ⌜ (r ≡ placesOf (decisionLine decision (now (obligations .entry))) (length (now (out .entry)))) × (now (out .exit) ≡ put (decisionLine decision (now (obligations .entry))) (now (out .entry))) ⌝ }
 {
-    let n = lesser(count, obligations.len());
+    let count = obligations.len();
     if out.len() < 7 {
         return 0;
     }
-    if (out.len() - 7) / 4 < n {
+    if (out.len() - 7) / 4 < count {
         return 0;
     }
     two_digits(out, 0, decision as usize);
-    four_digits(out, 2, n);
-    obligations_line(obligations, n, out);
-    7 + 4 * n
+    four_digits(out, 2, count);
+    put_obligations(obligations, out);
+    7 + 4 * count
 }
 
-fn lesser(a: usize, b: usize) -> usize
-    ensures { λ r. ⌜ r ≡ min a b ⌝ }
+// Puts the line of a decision with the first `count` obligations first into `out`, and answers its length. Where it does not fit nothing is put, and
+// the answer is 0.
+pub fn decision_line(decision: u8, obligations: &[u16], count: usize, out: &mut [u8]) -> usize
+    ensures { λ r. ⌜ (r ≡ placesOf (decisionLine decision (take count (now (obligations .entry)))) (length (now (out .entry)))) × (now (out .exit) ≡ put (decisionLine decision (take count (now (obligations .entry)))) (now (out .entry))) ⌝ }
 {
-    if a < b {
-        return a;
+    if count < obligations.len() {
+        return put_decision(decision, &obligations[..count], out);
     }
-    b
+    put_decision(decision, obligations, out)
 }

@@ -143,9 +143,9 @@ pushed e false n = Rest
 pushed Permits true n = AddPermit n
 pushed Denies true n = AddDeny n
 
--- at most three places are brought down in one step
+-- at most two places are brought down in one step
 abbrev pub atOnce : ℕ
-atOnce = 3
+atOnce = 2
 
 -- Deny's obligations come down while some are left above; then the last entry is next. Permit's stack is empty by then, and its height counts them.
 abbrev pub shifted : Bool → ℕ → Head → Out

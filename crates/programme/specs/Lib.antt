@@ -3,3 +3,5 @@ pub mod Core
 pub mod Machine
 pub mod Layout
 pub mod Step
+pub mod Moves
+pub mod Local

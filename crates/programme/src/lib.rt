@@ -1,4 +1,6 @@
 // The programme: the layout of its entries and of the state, a step, a run and a tick.
+pub mod words;
+
 use algorithm::Acc;
 use meaning::Algorithm;
 use meaning::Decision;

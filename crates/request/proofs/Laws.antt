@@ -1,8 +1,8 @@
 -- The rest of a bag, and what a match and a comparison are still to say of it: a law for each turn and each return of the two loops. Assumes nothing.
-use mathlib.Core.Path.{_≡_, refl, sym, ap, _∙_}
+use mathlib.Core.Path.{_≡_, refl, sym, _∙_}
 use mathlib.Core.Bool.{Bool, true, false}
 use mathlib.Core.List.{List, [], _∷_, _++_}
-use Prim.Native.Nat.{ℕ, zero, suc, _+_, _-_, _*_, _/_, _≤_, _<_}
+use Prim.Native.Nat.{ℕ, suc, _+_, _-_, _*_, _/_, _≤_, _<_}
 use native.Mathlib.Omega.{arith}
 use native.Mathlib.Nat.{sub-zero}
 use borrow.Author.Tests.{ne-eqb, eq-eqb}
@@ -27,11 +27,11 @@ unfoldable pub compareThen : Bool → ℕ → Test → List ℕ → Truth
 compareThen true v t vs = comparisonIn t (v ∷ vs)
 compareThen false v t vs = comparisonIn t vs
 
-pub match-all : (q : List ℕ) (t : Test) → matchThen true t (bagFrom q (t .key) (length q / 16 - 0) 0) ≡ matchOf (bagsOf q) t
+pub match-all : (q : List ℕ) (t : Test) → matchThen true t (bagFrom q (t .key) (length q / size - 0) 0) ≡ matchOf (bagsOf q) t
 unfolding matchThen matchOf bagsOf
 match-all q t = rw sub-zero
 
-pub compare-all : (q : List ℕ) (v : ℕ) (t : Test) → compareThen false v t (bagFrom q (t .key) (length q / 16 - 0) 0) ≡ comparisonOf (bagsOf q) t
+pub compare-all : (q : List ℕ) (v : ℕ) (t : Test) → compareThen false v t (bagFrom q (t .key) (length q / size - 0) 0) ≡ comparisonOf (bagsOf q) t
 unfolding compareThen comparisonOf bagsOf
 compare-all q v t = rw sub-zero
 
@@ -58,23 +58,23 @@ bag-step q key total k h =
     rw e
 
 -- the turns of the two loops: entry k has the key x
-module _ (q : List ℕ) (t : Test) (total k : ℕ) {x : ℕ} (h : k < total) (e : x ≡ bigOf q (k * 16) 4) where
+module _ (q : List ℕ) (t : Test) (total k : ℕ) {x : ℕ} (h : k < total) (e : x ≡ bigOf q (k * size) 4) where
   bag-miss : (x ≡ t .key → ⊥) → bagFrom q (t .key) (total - k) k ≡ bagFrom q (t .key) (total - (k + 1)) (k + 1)
-  bag-miss p = rw (bag-step q (t .key) total k h, ne-eqb (bigOf q (k * 16) 4) (t .key) (λ z. p (e ∙ z)))
+  bag-miss p = rw (bag-step q (t .key) total k h, ne-eqb (bigOf q (k * size) 4) (t .key) (λ z. p (e ∙ z)))
 
-  bag-hit : {v : ℕ} → x ≡ t .key → v ≡ bigOf q (k * 16 + 8) 8 → bagFrom q (t .key) (total - k) k ≡ v ∷ bagFrom q (t .key) (total - (k + 1)) (k + 1)
-  bag-hit p ev = rw (bag-step q (t .key) total k h, eq-eqb (bigOf q (k * 16) 4) (t .key) (sym e ∙ p), ev)
+  bag-hit : {v : ℕ} → x ≡ t .key → v ≡ bigOf q (k * size + 8) 8 → bagFrom q (t .key) (total - k) k ≡ v ∷ bagFrom q (t .key) (total - (k + 1)) (k + 1)
+  bag-hit p ev = rw (bag-step q (t .key) total k h, eq-eqb (bigOf q (k * size) 4) (t .key) (sym e ∙ p), ev)
 
   module _ {w : Truth} where
     pub match-miss : (n : Bool) → (x ≡ t .key → ⊥) → matchThen n t (bagFrom q (t .key) (total - k) k) ≡ w
         → matchThen n t (bagFrom q (t .key) (total - (k + 1)) (k + 1)) ≡ w
     match-miss n p i = rw (bag-miss p) at i
 
-    pub match-true : (n : Bool) {v : ℕ} {b : Bool} → x ≡ t .key → v ≡ bigOf q (k * 16 + 8) 8 → b ≡ gives t v → b ≡ true
+    pub match-true : (n : Bool) {v : ℕ} {b : Bool} → x ≡ t .key → v ≡ bigOf q (k * size + 8) 8 → b ≡ gives t v → b ≡ true
         → matchThen n t (bagFrom q (t .key) (total - k) k) ≡ w → True ≡ w
     match-true n {v} p ev eb z i = sym (match-hit n t v _ (sym eb ∙ z)) ∙ (rw (bag-hit p ev) at i)
 
-    pub match-false : (n : Bool) {v : ℕ} {b : Bool} → x ≡ t .key → v ≡ bigOf q (k * 16 + 8) 8 → b ≡ gives t v → b ≡ false
+    pub match-false : (n : Bool) {v : ℕ} {b : Bool} → x ≡ t .key → v ≡ bigOf q (k * size + 8) 8 → b ≡ gives t v → b ≡ false
         → matchThen n t (bagFrom q (t .key) (total - k) k) ≡ w → matchThen false t (bagFrom q (t .key) (total - (k + 1)) (k + 1)) ≡ w
     match-false n {v} p ev eb z i = sym (match-not n t v _ (sym eb ∙ z)) ∙ (rw (bag-hit p ev) at i)
 
@@ -86,7 +86,7 @@ module _ (q : List ℕ) (t : Test) (total k : ℕ) {x : ℕ} (h : k < total) (e 
     unfolding compareThen
     compare-again n v p z i = rw (bag-hit p refl, z) at i
 
-    pub compare-first : (n : Bool) (y : ℕ) {v : ℕ} → x ≡ t .key → v ≡ bigOf q (k * 16 + 8) 8 → n ≡ false
+    pub compare-first : (n : Bool) (y : ℕ) {v : ℕ} → x ≡ t .key → v ≡ bigOf q (k * size + 8) 8 → n ≡ false
         → compareThen n y t (bagFrom q (t .key) (total - k) k) ≡ w → compareThen true v t (bagFrom q (t .key) (total - (k + 1)) (k + 1)) ≡ w
     unfolding compareThen
     compare-first n y p ev z i = rw (bag-hit p ev, z) at i

@@ -2,17 +2,18 @@
 use mathlib.Core.Path.{_≡_, refl, sym, ap, _∙_}
 use mathlib.Core.Bool.{Bool, true, false}
 use mathlib.Core.List.{List, [], _∷_}
-use Prim.Native.Nat.{ℕ, zero, suc, _+_, _-_, _≤_, _<_}
+use Prim.Native.Nat.{ℕ, _+_, _-_, _≤_, _<_}
 use native.Mathlib.Omega.{arith}
-use borrow.Author.Tests.{ne-eqb}
+use borrow.Author.Tests.{ne-eqb, eqb-false}
+use lib.Dec.{eqb}
 use Rattle.record.specs.Choose.{if}
 use Rattle.record.specs.Bytes.{byteOf}
 use Rattle.record.specs.Forest.{Forest, none, node, spanIn, forest}
 use Rattle.record.proofs.Forests.{forest-none, forest-step, forest-more}
-use Rattle.meaning.specs.Logic.{andAll, orAll, notOf, targetAll}
-use Rattle.meaning.specs.Policy.{Some, OverRules, rulesDeny, rulesPermit, rulesFirst}
-use Rattle.meaning.specs.Meaning.{Bags, matchOf, comparisonOf, conditionOf, conditionsOf, each, conjunctionOf, sectionOf, sectionsOf, targetOf, under, decisionOf, whenOf, ruleOf, Child, combine, overRules, ruleChild, ruleChildren}
-use Rattle.meaning.specs.Reading.{matchAt, comparisonAt, rowOf, childrenAt, conjunctionAt, sectionAt, targetIn, conditionAt, conditionsIn, whenIn, effectOf, ruleAt, rulesIn}
+use Rattle.meaning.specs.Logic.{andAll, orAll, notOf}
+use Rattle.meaning.specs.Policy.{Conditions, compares, all, any, OverRules, rulesDeny, rulesPermit, rulesFirst}
+use Rattle.meaning.specs.Meaning.{Bags, matchOf, comparisonOf, conditionOf, conditionsOf, each, conjunctionOf, sectionOf, sectionsOf, targetOf, under, decisionOf, whenOf, ruleOf, combine, overRules, ruleChild, ruleChildren}
+use Rattle.meaning.specs.Reading.{matchAt, comparisonAt, rowOf, childrenAt, conjunctionAt, sectionAt, targetIn, notAt, conditionAt, conditionsIn, whenIn, effectOf, ruleAt, rulesIn}
 use Rattle.meaning.specs.declared.Test.{Test}
 use Rattle.meaning.specs.declared.Truth.{Truth}
 use Rattle.meaning.specs.declared.Truth.the-variants.{True, False, Unknown}
@@ -130,25 +131,27 @@ sections-over b i left g {k} h ek q = rw (forest-step b i left h, ← ek, ne-eqb
 
 -- a condition by its choice
 module _ (b : List ℕ) (g : Bags) (i s : ℕ) {k : ℕ} (e : k ≡ byteOf b i 1) where
-  pub is-and : {t : Truth} → k ≡ 1 → t ≡ andAll (conditionsOf g (conditionsIn b (forest b (i + 1) (s - 1))))
+  pub is-joined : (k ≡ 0 → ⊥) → k ≤ 3 → (k ≡ 3 → ⊥)
+      → (let ts = conditionsOf g (conditionsIn b (forest b (i + 1) (s - 1))) in if (eqb k 1) (andAll ts) (orAll ts)) ≡ conditionOf g (conditionAt b i (conditionsIn b (forest b (i + 1) (s - 1))))
+  unfolding conditionOf conditionAt
+  is-joined z h r = rw (← e) (on (eqb k 1) refl)
+    where
+      cs : Conditions
+      cs = conditionsIn b (forest b (i + 1) (s - 1))
+
+      on : (t : Bool) → eqb k 1 ≡ t → if t (andAll (conditionsOf g cs)) (orAll (conditionsOf g cs)) ≡ conditionOf g (if t (all cs) (if (eqb k 2) (any cs) (if (eqb k 3) (notAt b i cs) (compares (comparisonAt b i)))))
+      on true q = refl
+      on false q = let p : k ≡ 2 = omega (arith, eqb-false k 1 q) in rw p
+
+  pub is-comparison : {t : Truth} → (k ≡ 1 → ⊥) → (k ≡ 2 → ⊥) → (k ≡ 3 → ⊥) → t ≡ comparisonOf g (comparisonAt b i)
       → t ≡ conditionOf g (conditionAt b i (conditionsIn b (forest b (i + 1) (s - 1))))
   unfolding conditionOf conditionAt
-  is-and q et = rw (← e, q) et
+  is-comparison p q r et = rw (← e, ne-eqb k 1 p, ne-eqb k 2 q, ne-eqb k 3 r) et
 
-  pub is-or : {t : Truth} → k ≡ 2 → t ≡ orAll (conditionsOf g (conditionsIn b (forest b (i + 1) (s - 1))))
-      → t ≡ conditionOf g (conditionAt b i (conditionsIn b (forest b (i + 1) (s - 1))))
-  unfolding conditionOf conditionAt
-  is-or q et = rw (← e, q) et
-
-  pub is-comparison : {x : Test} {t : Truth} → (k ≡ 1 → ⊥) → (k ≡ 2 → ⊥) → (k ≡ 3 → ⊥) → x ≡ comparisonAt b i → t ≡ comparisonOf g x
-      → t ≡ conditionOf g (conditionAt b i (conditionsIn b (forest b (i + 1) (s - 1))))
-  unfolding conditionOf conditionAt
-  is-comparison p q r ex et = rw (← e, ne-eqb k 1 p, ne-eqb k 2 q, ne-eqb k 3 r, ← ex) et
-
-  pub not-none : {x : Test} {t : Truth} → k ≡ 3 → s ≡ 1 → x ≡ comparisonAt b i → t ≡ comparisonOf g x
+  pub not-none : {t : Truth} → k ≡ 3 → s ≡ 1 → t ≡ comparisonOf g (comparisonAt b i)
       → t ≡ conditionOf g (conditionAt b i (conditionsIn b (forest b (i + 1) (s - 1))))
   unfolding conditionOf conditionAt conditionsIn
-  not-none q h ex et = rw (forest-none b (i + 1) (s - 1) (omega arith), ← e, q, ← ex) et
+  not-none q h et = rw (forest-none b (i + 1) (s - 1) (omega arith), ← e, q) et
 
   pub not-more : {n : ℕ} {t u : Truth} → k ≡ 3 → 0 < s → (s ≡ 1 → ⊥) → n ≡ spanIn b (i + 1) (s - 1)
       → t ≡ conditionOf g (conditionAt b (i + 1) (conditionsIn b (forest b (i + 1 + 1) (n - 1)))) → u ≡ notOf t

@@ -7,11 +7,13 @@ use meaning::Truth;
 ghost use mathlib.Core.Path.{_≡_};
 ghost use Prim.Native.Nat.{_+_, _*_, _-_, _<_, _≤_};
 ghost use lib.ListN.{length};
+ghost use Rattle.record.specs.Choose.{if};
 ghost use Rattle.record.specs.Forest.{forest};
-ghost use Rattle.meaning.specs.Logic.{andAll, orAll};
-ghost use Rattle.meaning.specs.Meaning.{conjunctionOf, sectionOf, targetOf, conditionOf, conditionsOf, under, decisionOf, whenOf, ruleOf, overRules, combine, ruleChildren};
+ghost use Rattle.meaning.specs.Logic.{isTrue, isFalse, andOf, orOf};
+ghost use Rattle.meaning.specs.Meaning.{conjunctionOf, sectionOf, targetOf, comparisonOf, conditionOf, under, decisionOf, whenOf, ruleOf, overRules, combine, ruleChildren};
 ghost use Rattle.meaning.specs.Reading.{testAt, matchAt, comparisonAt, conjunctionAt, sectionAt, targetIn, conditionAt, conditionsIn, whenIn, effectOf, ruleAt, rulesIn, rulesBy, bagsOf};
 
+// A byte, as the key counts.
 fn wide(x: usize) -> u32
     requires { ⌜ x < 256 ⌝ }
     ensures { λ r. ⌜ (r ≡ x) × (r < 256) ⌝ }
@@ -137,64 +139,77 @@ pub fn target(book: &[u8], request: &[u8], from: usize, count: usize) -> Truth
     acc
 }
 
-// The condition at record i: it calls itself on its parts, and the span falls at each call.
+// What the request says to the comparison at record i.
+fn compared(book: &[u8], request: &[u8], i: usize) -> Truth
+    requires { ⌜ (i + 1) * 16 ≤ length (now book) ⌝ }
+    ensures { λ r. ⌜ r ≡ comparisonOf (bagsOf (now (request .entry))) (comparisonAt (now (book .entry)) i) ⌝ }
+{
+    request::comparison(request, comparison_at(book, i))
+}
+
+// And where `all`, else or: what no parts give.
+fn joined_none(all: bool) -> Truth
+    ensures { λ r. ⌜ r ≡ if all (Truth.True) (Truth.False) ⌝ }
+{
+    if all {
+        return Truth::True;
+    }
+    Truth::False
+}
+
+// And where `all`, else or: what two parts give.
+fn joined(all: bool, a: Truth, b: Truth) -> Truth
+    ensures { λ r. ⌜ r ≡ if all (andOf a b) (orOf a b) ⌝ }
+{
+    if all {
+        return meaning::and3(a, b);
+    }
+    meaning::or3(a, b)
+}
+
+// And where `all`, else or: whether one part settles it.
+fn is_sure(all: bool, t: Truth) -> bool
+    ensures { λ r. ⌜ r ≡ if all (isFalse t) (isTrue t) ⌝ }
+{
+    match t {
+        Truth::True => !all,
+        Truth::False => all,
+        Truth::Unknown => false,
+    }
+}
+
+// The condition at record i: 1 and, 2 or, 3 not, else a comparison. It calls itself on its parts, and the span falls at each call.
 pub fn condition(book: &[u8], request: &[u8], i: usize, s: usize) -> Truth
     requires { ⌜ (0 < s) × ((i + s) * 16 ≤ length (now book)) ⌝ }
     ensures { λ r. ⌜ r ≡ conditionOf (bagsOf (now (request .entry))) (conditionAt (now (book .entry)) i (conditionsIn (now (book .entry)) (forest (now (book .entry)) (i + 1) (s - 1)))) ⌝ }
 {
     let choice = record::byte(book, i, 1);
-    match choice {
-        1 => all(book, request, i + 1, s - 1),
-        2 => any(book, request, i + 1, s - 1),
-        3 => {
-            if s == 1 {
-                return request::comparison(request, comparison_at(book, i));
-            }
-            let part = record::span_in(book, i + 1, s - 1);
-            meaning::not3(condition(book, request, i + 1, part))
+    if choice == 3 {
+        if s == 1 {
+            return compared(book, request, i);
         }
-        _ => request::comparison(request, comparison_at(book, i)),
+        let part = record::span_in(book, i + 1, s - 1);
+        return meaning::not3(condition(book, request, i + 1, part));
     }
-}
-
-// And over conditions.
-fn all(book: &[u8], request: &[u8], from: usize, count: usize) -> Truth
-    requires { ⌜ (from + count) * 16 ≤ length (now book) ⌝ }
-    ensures { λ r. ⌜ r ≡ andAll (conditionsOf (bagsOf (now (request .entry))) (conditionsIn (now (book .entry)) (forest (now (book .entry)) from count))) ⌝ }
-{
-    let mut i = from;
-    let mut left = count;
-    let mut acc = Truth::True;
-    while 0 < left {
-        let s = record::span_in(book, i, left);
-        let t = condition(book, request, i, s);
-        if let Truth::False = t {
-            return Truth::False;
-        }
-        acc = meaning::and3(acc, t);
-        i += s;
-        left -= s;
+    if choice == 0 {
+        return compared(book, request, i);
     }
-    acc
-}
-
-// Or over conditions.
-fn any(book: &[u8], request: &[u8], from: usize, count: usize) -> Truth
-    requires { ⌜ (from + count) * 16 ≤ length (now book) ⌝ }
-    ensures { λ r. ⌜ r ≡ orAll (conditionsOf (bagsOf (now (request .entry))) (conditionsIn (now (book .entry)) (forest (now (book .entry)) from count))) ⌝ }
-{
-    let mut i = from;
-    let mut left = count;
-    let mut acc = Truth::False;
+    if 3 < choice {
+        return compared(book, request, i);
+    }
+    let all = choice == 1;
+    let mut at = i + 1;
+    let mut left = s - 1;
+    let mut acc = joined_none(all);
     while 0 < left {
-        let s = record::span_in(book, i, left);
-        let t = condition(book, request, i, s);
-        if let Truth::True = t {
-            return Truth::True;
+        let n = record::span_in(book, at, left);
+        let t = condition(book, request, at, n);
+        if is_sure(all, t) {
+            return t;
         }
-        acc = meaning::or3(acc, t);
-        i += s;
-        left -= s;
+        acc = joined(all, acc, t);
+        at += n;
+        left -= n;
     }
     acc
 }
@@ -218,6 +233,7 @@ fn when(book: &[u8], request: &[u8], from: usize, count: usize) -> Truth
     Truth::True
 }
 
+// 1 Permit, else Deny.
 fn effect_of(choice: usize) -> Effect
     ensures { λ r. ⌜ r ≡ effectOf choice ⌝ }
 {
@@ -227,6 +243,7 @@ fn effect_of(choice: usize) -> Effect
     Effect::Denies
 }
 
+// The decision that an effect asks for.
 fn decision_of(e: Effect) -> Decision
     ensures { λ r. ⌜ r ≡ decisionOf e ⌝ }
 {
@@ -236,6 +253,7 @@ fn decision_of(e: Effect) -> Decision
     }
 }
 
+// The decision d where the condition is True.
 fn judged(t: Truth, d: Decision) -> Decision
     ensures { λ r. ⌜ r ≡ under t d ⌝ }
 {

@@ -1,5 +1,5 @@
--- A run and a tick, in single steps: document 01, "The programme and its ticks". Assumes nothing.
-use Prim.Native.Nat.{ℕ, zero, suc, _+_, _-_}
+-- A tick: document 01, "The programme and its ticks". Assumes nothing.
+use Prim.Native.Nat.{ℕ, _-_}
 use mathlib.Core.Bool.{Bool, true, false}
 use mathlib.Core.List.{List, _++_}
 use lib.Dec.{ltb, leb}
@@ -14,28 +14,12 @@ use Rattle.judge.specs.declared.JudgedRequest.{JudgedRequest}
 use Rattle.judge.specs.declared.JudgedRequest.the-variants as judged
 use Rattle.programme.specs.declared.State.{State}
 use Rattle.programme.specs.Layout.{unpackOf, allowed}
-use Rattle.programme.specs.Step.{mayStep, stepOf, isOver, countBy}
+use Rattle.programme.specs.Step.{isOver, countBy}
 use Rattle.run.specs.declared.Answer.{Answer}
 use Rattle.run.specs.declared.Answer.the-variants.{Running, Finished, Refused}
 use Rattle.run.specs.declared.Ran.{Ran}
+use Rattle.run.specs.Run.{runOf}
 use Rattle.run.specs.declared.Tick.{Tick}
-
--- a run of at most so many steps: no further than a finished state, and not ok where a step that it would take meets entries outside their layout
-abbrev pub stay : Bool → State → Ran
-stay ok s = record { ok = ok; state = s; steps = 0 }
-
-abbrev pub oneMore : Ran → Ran
-oneMore r = record { ok = r .ok; state = r .state; steps = 1 + r .steps }
-
--- is the run over, may a step be taken; the rest of the run after that step
-abbrev pub goOn : Bool → Bool → State → Ran → Ran
-goOn true may s r = stay true s
-goOn false false s r = stay false s
-goOn false true s r = oneMore r
-
-unfoldable pub runOf : List ℕ → Bags → ℕ → State → Ran
-runOf p g zero s = stay true s
-runOf p g (suc n) s = goOn (isOver s) (mayStep p s) s (runOf p g n (stepOf p g s))
 
 -- the programme has an entry and not over 8,008, and the state is one that its layout allows
 unfoldable pub admitted : ℕ → ℕ → Bool

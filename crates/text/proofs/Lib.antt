@@ -5,5 +5,6 @@ pub mod Letters
 pub mod Accepted
 pub mod RoundTrip
 pub mod Bounds
+pub mod FirstBytes
 pub mod Unique
 pub mod Examples

@@ -57,7 +57,7 @@ judgeFrom text (suc more) n =
     if (leb (length text) (lineLength * n)) (Lines n)
     (if (goodLine text (lineLength * n)) (judgeFrom text more (n + 1)) (Wrong (n + 1)))
 
--- then 3; then 7
+-- then 3; then 7: what reading answers, by how the lines were judged
 unfoldable pub readJudged : Kind → Judged → ℕ → Filled
 readJudged k Over room = Refused (tooMany (k .part))
 readJudged k (Wrong line) room = Refused (badLine (k .part) line)
@@ -73,17 +73,18 @@ readOf k text room = readJudged k (judgeFrom text (k .most) 0) room
 -- byte i of the records that a text says: two digits
 unfoldable pub byteAt : List ℕ → ℕ → ℕ
 byteAt text i =
-    16 * valueOf (getD text (lineLength * (i / size) + 2 * (i % size)) 0)
-    + valueOf (getD text (lineLength * (i / size) + 2 * (i % size) + 1) 0)
+    let p = lineLength * (i / size) + 2 * (i % size) in
+    16 * valueOf (getD text p 0) + valueOf (getD text (p + 1) 0)
 
--- what writing answers: 3 (book only), 4, 2, 7
+-- what writing answers, by the records and the places of the output: 3 (book only), 4, 2, 7
 unfoldable pub writeOf : Kind → List ℕ → ℕ → Filled
 writeOf k records room =
+    let n = length records / size in
     if (missing k (length records)) (Refused (noRecord (k .part)))
     (if (ltb 0 (length records % size)) (Refused (cutShort (k .part)))
-    (if (ltb (k .most) (length records / size)) (Refused (tooMany (k .part)))
-    (if (ltb room (lineLength * (length records / size))) (Refused noRoom)
-    (Places (lineLength * (length records / size))))))
+    (if (ltb (k .most) n) (Refused (tooMany (k .part)))
+    (if (ltb room (lineLength * n)) (Refused noRoom)
+    (Places (lineLength * n)))))
 
 -- byte j of the text that records make, in capitals: LF at the end of each line, and the upper half of a byte before the lower
 unfoldable pub textAt : List ℕ → ℕ → ℕ

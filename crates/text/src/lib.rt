@@ -14,7 +14,7 @@ const DIGITS: usize = 32;
 
 const LINE: usize = 33;
 
-const LF: u8 = 10;
+pub const LF: u8 = 10;
 
 // What reading and writing answer: so many places of the output are filled, or nothing is.
 pub enum Filled {

@@ -4,3 +4,11 @@ pub mod Words
 pub mod Size
 pub mod Fetch
 pub mod Counted
+pub mod Lists
+pub mod Goes
+pub mod Rules
+pub mod Nodes
+pub mod Small
+pub mod Arrays
+pub mod Whole
+pub mod Packed

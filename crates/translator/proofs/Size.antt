@@ -304,7 +304,7 @@ mutual
 pub short : (x : Tree) → length (translated x) ≤ 4 * recs x + 3
 unfolding translated programme codeBody codeObligations recs obligations
 short x =
-    let n : ℕ = (obligations Denies x + 2) / 3 in
+    let n : ℕ = (obligations Denies x + 1) / 2 in
     let kids : List Entry = codeTrees First (tree x noTree) in
     let h = length-append (codeBody kids []) (replicate n shift ++ (finish ∷ [])) in
     let i = length-append kids (conclude 0 ∷ []) in

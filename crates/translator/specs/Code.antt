@@ -107,7 +107,7 @@ programme x c n = begin c ∷ codeBody (codeTrees First (tree x noTree)) [] ++ (
 
 -- Deny's obligations begin behind room for all of Permit's, and come down `atOnce` at a time
 unfoldable pub translated : Tree → List Entry
-translated x = programme x (obligations Permits x) ((obligations Denies x + 2) / atOnce)
+translated x = programme x (obligations Permits x) ((obligations Denies x + 1) / atOnce)
 
 -- as numbers
 unfoldable pub inNumbers : List Entry → List ℕ

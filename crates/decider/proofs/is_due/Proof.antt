@@ -1,47 +1,29 @@
 use borrow.Author.Needs.{needs}
+use borrow.Author.Tests.{ne-eqb}
+use Rattle.decider.specs.Inside.{isDue}
 use Rattle.decider.proofs.is_due.Statement.{statement}
 use Rattle.decider.proofs.is_due.Tie as tie
-use Rattle.decider.proofs.is_due.Reads as reads
-use Rattle.decider.proofs.is_due.Lts as lts
-use Rattle.decider.proofs.same.Reads as same-reads
-use Rattle.record.proofs.byte.Reads as byte-reads
 
--- src/lib.rt:95:9
-byte-requires : tie.Need-byte-requires
-byte-requires c κs = search needs
-
--- src/lib.rt:97:9
 returns : tie.Need-returns
-returns c = ?
+unfolding isDue
+returns c = rw (← c .before .byte .ensures .0, ne-eqb _ 8 (c .if1 .taken))
 
--- src/lib.rt:99:9
-byte-requires-2 : tie.Need-byte-requires-2
-byte-requires-2 c κs = search needs
-
--- src/lib.rt:101:9
-same-requires : tie.Need-same-requires
-same-requires c κs = search needs
-
--- src/lib.rt:101:9
 returns-2 : tie.Need-returns-2
-returns-2 c = ?
+unfolding isDue
+returns-2 c = rw (← c .before .before .before .before .byte .ensures .0, c .before .before .before .if1 .left, ← c .before .before .byte2 .ensures .0, c .before .if2 .taken) (c .same .ensures)
 
--- src/lib.rt:103:5
-same-requires-2 : tie.Need-same-requires-2
-same-requires-2 c κs = search needs
-
--- src/lib.rt:91:1
 returns-3 : tie.Need-returns-3
-returns-3 c = ?
+unfolding isDue
+returns-3 c = rw (← c .before .before .before .before .byte .ensures .0, c .before .before .before .if1 .left, ← c .before .before .byte2 .ensures .0, ne-eqb _ 1 (c .before .if2 .left)) (c .same2 .ensures)
 
 pub is-due-spec : {M : Type 1} → statement M
 is-due-spec =
     tie.close
     (tie.spec
-    byte-requires
+    (λ c κs. search needs)
     returns
-    byte-requires-2
-    same-requires
+    (λ c κs. search needs)
+    (λ c κs. search needs)
     returns-2
-    same-requires-2
+    (λ c κs. search needs)
     returns-3)

@@ -1,14 +1,10 @@
 use borrow.Author.Tests.{lt-leb, le-leb}
 use Rattle.fields.proofs.category_ok.Statement.{statement}
 use Rattle.fields.proofs.category_ok.Tie as tie
-use Rattle.fields.proofs.category_ok.Reads as reads
-use Rattle.fields.proofs.category_ok.Lts as lts
 
--- src/lib.rt:84:9
 returns : tie.Need-returns
 returns c = simp (lt-leb 1 _ (c .if1 .taken))
 
--- src/lib.rt:80:1
 returns-2 : tie.Need-returns-2
 returns-2 c = simp (le-leb 1 _ (c .if1 .left))
 

@@ -9,9 +9,6 @@ use Rattle.fields.proofs.First.{first-none, first-here, first-next}
 use borrow.Author.Needs.{needs}
 use Rattle.fields.proofs.first_entry.Statement.{statement}
 use Rattle.fields.proofs.first_entry.Tie as tie
-use Rattle.fields.proofs.first_entry.Reads as reads
-use Rattle.fields.proofs.first_entry.Lts as lts
-use Rattle.fields.proofs.entry_ok.Reads as entry-ok-reads
 
 abbrev Inv-loop : tie.InvT-loop
 Inv-loop request n i₀ i = (i ≤ n) × (firstFrom (entryOk request) 0 n ≡ firstFrom (entryOk request) i (n - i))
@@ -19,22 +16,15 @@ Inv-loop request n i₀ i = (i ≤ n) × (firstFrom (entryOk request) 0 n ≡ fi
 abbrev μ-loop : tie.MeasureT-loop
 μ-loop request n i₀ i = n - i
 
--- src/lib.rt:294:5
 loop-holds : tie.Need-loop-holds Inv-loop μ-loop
 loop-holds c = (search needs, rw sub-zero)
 
--- src/lib.rt:295:13
--- src/lib.rt:296:13
 returns : tie.Need-returns Inv-loop μ-loop
 returns c = let i = c .before .before .before .loop .i in let n = c .before .before .before .before .before .args .n in (sym (c .before .before .before .loop .inv .1 ∙ first-here _ i (n - i) (omega arith) (sym (c .before .entry-ok .ensures) ∙ not-true _ (c .if1 .taken))), omega arith)
 
--- src/lib.rt:298:9
--- src/lib.rt:294:5
--- src/lib.rt:294:5
 loop-again : tie.Need-loop-again Inv-loop μ-loop
 loop-again c = let i = c .before .before .before .loop .i in let n = c .before .before .before .before .before .args .n in (search needs, c .before .before .before .loop .inv .1 ∙ first-next _ i (n - i) (n - (i + 1)) (omega arith) (sym (c .before .entry-ok .ensures) ∙ not-false _ (c .if1 .left)))
 
--- src/lib.rt:289:1
 returns-2 : tie.Need-returns-2 Inv-loop μ-loop
 returns-2 c = let i = c .before .loop .i in let n = c .before .before .before .args .n in let e : i ≡ n = omega arith in (sym (c .before .loop .inv .1 ∙ first-none _ i (n - i) (omega arith) ∙ e), omega arith)
 

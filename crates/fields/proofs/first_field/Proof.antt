@@ -1,5 +1,5 @@
 use native.Mathlib.Omega.{arith}
-use mathlib.Core.Path.{_≡_, refl, sym, _∙_}
+use mathlib.Core.Path.{_≡_, sym, _∙_}
 use Prim.Native.Nat.{_≤_, _-_, _+_}
 use native.Mathlib.Nat.{sub-zero}
 use borrow.Author.Tests.{not-true, not-false}
@@ -10,11 +10,6 @@ use Rattle.fields.proofs.First.{first-none, first-here, first-next}
 use borrow.Author.Needs.{needs}
 use Rattle.fields.proofs.first_field.Statement.{statement}
 use Rattle.fields.proofs.first_field.Tie as tie
-use Rattle.fields.proofs.first_field.Reads as reads
-use Rattle.fields.proofs.first_field.Lts as lts
-use Rattle.fields.proofs.field_ok.Reads as field-ok-reads
-use Rattle.fields.proofs.obligation.Reads as obligation-reads
-use Rattle.record.proofs.byte.Reads as byte-reads
 
 abbrev Inv-loop : tie.InvT-loop
 Inv-loop book n records₀ obligations₀ records obligations =
@@ -23,28 +18,18 @@ Inv-loop book n records₀ obligations₀ records obligations =
 abbrev μ-loop : tie.MeasureT-loop
 μ-loop book n records₀ obligations₀ records obligations = n - records
 
--- src/lib.rt:258:5
 loop-holds : tie.Need-loop-holds Inv-loop μ-loop
 loop-holds c = (search needs, search needs, rw sub-zero, obligations-none _)
 
--- src/lib.rt:259:13
--- src/lib.rt:260:13
 returns : tie.Need-returns Inv-loop μ-loop
 returns c = let i = c .before .before .before .loop .records in let n = c .before .before .before .before .before .args .n in (sym (c .before .before .before .loop .inv .2 ∙ first-here _ i (n - i) (omega arith) (sym (c .before .field-ok .ensures) ∙ not-true _ (c .if1 .taken))), omega arith, c .before .before .before .loop .inv .3)
 
--- src/lib.rt:265:35
--- src/lib.rt:265:24
--- src/lib.rt:265:9
 add-obligations : tie.Need-add-obligations Inv-loop μ-loop
 add-obligations c = omega arith
 
--- src/lib.rt:266:9
--- src/lib.rt:258:5
--- src/lib.rt:258:5
 loop-again : tie.Need-loop-again Inv-loop μ-loop
 loop-again c = let i = c .before .before .before .before .before .loop .records in let n = c .before .before .before .before .before .before .before .args .n in (search needs, omega arith, c .before .before .before .before .before .loop .inv .2 ∙ first-next _ i (n - i) (n - (i + 1)) (omega arith) (sym (c .before .before .before .field-ok .ensures) ∙ not-false _ (c .before .before .if1 .left)), obligations-more _ i (c .before .before .before .before .before .loop .inv .3) (c .before .byte .ensures .0) (c .obligation .ensures .0))
 
--- src/lib.rt:252:1
 returns-2 : tie.Need-returns-2 Inv-loop μ-loop
 returns-2 c = let i = c .before .loop .records in let n = c .before .before .before .args .n in (sym (c .before .loop .inv .2 ∙ first-none _ i (n - i) (omega arith)), omega arith, c .before .loop .inv .3)
 

@@ -2,15 +2,7 @@ use Rattle.fields.specs.Fields.{finite}
 use borrow.Author.Needs.{needs}
 use Rattle.fields.proofs.is_finite.Statement.{statement}
 use Rattle.fields.proofs.is_finite.Tie as tie
-use Rattle.fields.proofs.is_finite.Reads as reads
-use Rattle.fields.proofs.is_finite.Lts as lts
-use Rattle.record.proofs.byte.Reads as byte-reads
 
--- src/lib.rt:112:5
--- src/lib.rt:112:5
--- src/lib.rt:112:35
--- src/lib.rt:112:5
--- src/lib.rt:108:1
 returns : tie.Need-returns
 unfolding finite
 returns c = rw (← c .before .byte .ensures .0, ← c .byte2 .ensures .0)

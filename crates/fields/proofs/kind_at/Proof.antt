@@ -2,15 +2,7 @@ use Rattle.fields.specs.Fields.{kindAt}
 use borrow.Author.Needs.{needs}
 use Rattle.fields.proofs.kind_at.Statement.{statement}
 use Rattle.fields.proofs.kind_at.Tie as tie
-use Rattle.fields.proofs.kind_at.Reads as reads
-use Rattle.fields.proofs.kind_at.Lts as lts
-use Rattle.fields.proofs.kind_of.Reads as kind-of-reads
-use Rattle.record.proofs.byte.Reads as byte-reads
 
--- src/lib.rt:77:13
--- src/lib.rt:77:31
--- src/lib.rt:77:5
--- src/lib.rt:73:1
 returns : tie.Need-returns
 unfolding kindAt
 returns c = rw (← c .before .before .byte .ensures .0, ← c .before .byte2 .ensures .0) (c .kind-of .ensures)

@@ -4,74 +4,51 @@ use Rattle.fields.proofs.Laws.{not-logic, not-three}
 use borrow.Author.Needs.{needs}
 use Rattle.fields.proofs.kind_of.Statement.{statement}
 use Rattle.fields.proofs.kind_of.Tie as tie
-use Rattle.fields.proofs.kind_of.Reads as reads
-use Rattle.fields.proofs.kind_of.Lts as lts
-use Rattle.fields.proofs.choose.Reads as choose-reads
 
--- src/lib.rt:55:14
--- src/lib.rt:56:14
--- src/lib.rt:57:14
--- src/lib.rt:58:14
--- src/lib.rt:59:14
--- src/lib.rt:60:14
--- src/lib.rt:65:18
--- src/lib.rt:67:14
--- src/lib.rt:51:1
 returns : tie.Need-returns
 unfolding kindOf
 returns c = rw (c .before .match .keys1) (c .choose .ensures)
 
--- src/lib.rt:51:1
 returns-2 : tie.Need-returns-2
 unfolding kindOf
 returns-2 c = rw (c .before .match .keys2) (c .choose2 .ensures)
 
--- src/lib.rt:51:1
 returns-3 : tie.Need-returns-3
 unfolding kindOf
 returns-3 c = rw (c .before .match .keys3) (c .choose3 .ensures)
 
--- src/lib.rt:51:1
 returns-4 : tie.Need-returns-4
 unfolding kindOf
 returns-4 c = rw (c .before .match .keys4) (c .choose4 .ensures)
 
--- src/lib.rt:51:1
 returns-5 : tie.Need-returns-5
 unfolding kindOf
 returns-5 c = rw (c .before .match .keys5) (c .choose5 .ensures)
 
--- src/lib.rt:51:1
 returns-6 : tie.Need-returns-6
 unfolding kindOf
 returns-6 c = rw (c .before .match .keys6) (c .choose6 .ensures)
 
--- src/lib.rt:51:1
 returns-7 : tie.Need-returns-7
 unfolding kindOf
 returns-7 c = rw (c .before .match .keys7, c .match2 .keys1)
 
--- src/lib.rt:51:1
 returns-8 : tie.Need-returns-8
 unfolding kindOf
 returns-8 c = rw (c .before .match .keys7, c .match2 .keys2)
 
--- src/lib.rt:51:1
 returns-9 : tie.Need-returns-9
 unfolding kindOf
 returns-9 c = rw (c .before .match .keys7, c .match2 .keys3)
 
--- src/lib.rt:51:1
 returns-10 : tie.Need-returns-10
 unfolding kindOf
 returns-10 c = rw (c .before .before .match .keys7, not-logic _ (c .before .match2 .rest .0 .0 .1) (c .before .match2 .rest .0 .1), not-three _ (c .before .match2 .rest .1)) (c .choose7 .ensures)
 
--- src/lib.rt:51:1
 returns-11 : tie.Need-returns-11
 unfolding kindOf
 returns-11 c = rw (c .before .match .keys8) (c .choose8 .ensures)
 
--- src/lib.rt:51:1
 returns-12 : tie.Need-returns-12
 unfolding kindOf
 returns-12 c = rw (ne-eqb _ 1 (c .match .rest .0 .0 .0 .0 .0 .0 .0 .1), ne-eqb _ 2 (c .match .rest .0 .0 .0 .0 .0 .0 .1), ne-eqb _ 3 (c .match .rest .0 .0 .0 .0 .0 .1), ne-eqb _ 4 (c .match .rest .0 .0 .0 .0 .1), ne-eqb _ 5 (c .match .rest .0 .0 .0 .1), ne-eqb _ 6 (c .match .rest .0 .0 .1), ne-eqb _ 7 (c .match .rest .0 .1), ne-eqb _ 8 (c .match .rest .1))

@@ -1,15 +1,11 @@
 use native.Mathlib.Omega.{arith}
-use borrow.Author.Tests.{eq-eqb, ne-eqb}
+use borrow.Author.Tests.{ne-eqb}
 use Rattle.fields.proofs.obligation.Statement.{statement}
 use Rattle.fields.proofs.obligation.Tie as tie
-use Rattle.fields.proofs.obligation.Reads as reads
-use Rattle.fields.proofs.obligation.Lts as lts
 
--- src/lib.rt:240:9
 returns : tie.Need-returns
 returns c = (rw (c .if1 .taken), omega arith)
 
--- src/lib.rt:236:1
 returns-2 : tie.Need-returns-2
 returns-2 c = (rw (ne-eqb _ _ (c .if1 .left)), omega arith)
 

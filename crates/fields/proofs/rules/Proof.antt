@@ -1,80 +1,37 @@
 use borrow.Author.Needs.{needs}
 use Rattle.fields.proofs.rules.Statement.{statement}
 use Rattle.fields.proofs.rules.Tie as tie
-use Rattle.fields.proofs.rules.Reads as reads
-use Rattle.fields.proofs.rules.Lts as lts
-use Rattle.fields.proofs.compares_ok.Reads as compares-ok-reads
-use Rattle.fields.proofs.less_ten.Reads as less-ten-reads
-use Rattle.fields.proofs.obligation_ok.Reads as obligation-ok-reads
-use Rattle.fields.proofs.plain_ok.Reads as plain-ok-reads
-use Rattle.fields.proofs.section_ok.Reads as section-ok-reads
-use Rattle.record.proofs.byte.Reads as byte-reads
 
--- src/lib.rt:213:28
--- src/lib.rt:213:28
--- src/lib.rt:214:25
--- src/lib.rt:214:25
--- src/lib.rt:215:23
--- src/lib.rt:215:23
--- src/lib.rt:216:26
--- src/lib.rt:216:26
--- src/lib.rt:217:30
--- src/lib.rt:217:30
--- src/lib.rt:218:45
--- src/lib.rt:218:45
--- src/lib.rt:218:24
--- src/lib.rt:219:24
--- src/lib.rt:219:24
--- src/lib.rt:220:22
--- src/lib.rt:220:22
--- src/lib.rt:221:59
--- src/lib.rt:221:59
--- src/lib.rt:221:50
--- src/lib.rt:221:29
--- src/lib.rt:222:29
--- src/lib.rt:222:29
--- src/lib.rt:223:26
--- src/lib.rt:208:1
 returns : tie.Need-returns
 returns c = rw (c .before .enum-told .given .1) (c .plain-ok .ensures)
 
--- src/lib.rt:208:1
 returns-2 : tie.Need-returns-2
 returns-2 c = rw (c .before .enum-told2 .given .1) (c .plain-ok2 .ensures)
 
--- src/lib.rt:208:1
 returns-3 : tie.Need-returns-3
 returns-3 c = rw (c .before .enum-told3 .given .1) (c .plain-ok3 .ensures)
 
--- src/lib.rt:208:1
 returns-4 : tie.Need-returns-4
 returns-4 c = rw (c .before .enum-told4 .given .1) (c .section-ok .ensures)
 
--- src/lib.rt:208:1
 returns-5 : tie.Need-returns-5
 returns-5 c = rw (c .before .enum-told5 .given .1) (c .plain-ok4 .ensures)
 
--- src/lib.rt:208:1
 returns-6 : tie.Need-returns-6
 returns-6 c = rw (c .before .before .enum-told6 .given .1, ← c .before .byte .ensures .0) (c .compares-ok .ensures)
 
--- src/lib.rt:208:1
 returns-7 : tie.Need-returns-7
 returns-7 c = rw (c .before .enum-told7 .given .1) (c .plain-ok5 .ensures)
 
--- src/lib.rt:208:1
 returns-8 : tie.Need-returns-8
 returns-8 c = rw (c .before .enum-told8 .given .1) (c .plain-ok6 .ensures)
 
--- src/lib.rt:208:1
 returns-9 : tie.Need-returns-9
 returns-9 c = rw (c .before .before .before .enum-told9 .given .1, ← c .before .before .byte2 .ensures .0, ← c .before .less-ten .ensures) (c .compares-ok2 .ensures)
 
--- src/lib.rt:208:1
 returns-10 : tie.Need-returns-10
 returns-10 c = rw (c .before .enum-told10 .given .1) (c .obligation-ok .ensures)
 
--- src/lib.rt:208:1
 pub rules-spec : {M : Type 1} → statement M
 rules-spec =
     tie.close

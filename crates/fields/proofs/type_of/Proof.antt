@@ -2,25 +2,19 @@ use borrow.Author.Tests.{ne-eqb}
 use Rattle.fields.specs.Fields.{typeOf}
 use Rattle.fields.proofs.type_of.Statement.{statement}
 use Rattle.fields.proofs.type_of.Tie as tie
-use Rattle.fields.proofs.type_of.Reads as reads
-use Rattle.fields.proofs.type_of.Lts as lts
 
--- src/lib.rt:89:1
 returns : tie.Need-returns
 unfolding typeOf
 returns c = rw (c .match .keys1)
 
--- src/lib.rt:89:1
 returns-2 : tie.Need-returns-2
 unfolding typeOf
 returns-2 c = rw (c .match .keys2)
 
--- src/lib.rt:89:1
 returns-3 : tie.Need-returns-3
 unfolding typeOf
 returns-3 c = rw (c .match .keys3)
 
--- src/lib.rt:89:1
 returns-4 : tie.Need-returns-4
 unfolding typeOf
 returns-4 c = rw (ne-eqb _ 1 (c .match .rest .0 .0 .1), ne-eqb _ 2 (c .match .rest .0 .1), ne-eqb _ 3 (c .match .rest .1))

@@ -33,12 +33,12 @@ abbrev walk-below : ℕ → In 1 walk-kinds.ps
 walk-below t = and 1 walk-kinds.ps (falls 1 walk-kinds.ps _<_ μ-walk t) walk.Pre
 
 abbrev walk-Inv-loop : walk-lts.InvT-loop
-walk-Inv-loop book p top d pn gc pc i₀ er₀ i er =
-    (i ≤ top) × (p < i) × (er < 256) × Walk book p i top d pn gc pc er
-    × (firstFrom (placeOk book) (p + 1) (top - (p + 1)) ≡ firstFrom (placeOk book) i (top - i))
+walk-Inv-loop book parent top depth kind outer category i₀ before₀ i before =
+    (i ≤ top) × (parent < i) × (before < 256) × Walk book parent i top depth kind outer category before
+    × (firstFrom (placeOk book) (parent + 1) (top - (parent + 1)) ≡ firstFrom (placeOk book) i (top - i))
 
 abbrev walk-μ-loop : walk-lts.MeasureT-loop
-walk-μ-loop book p top d pn gc pc i₀ er₀ i er = top - i
+walk-μ-loop book parent top depth kind outer category i₀ before₀ i before = top - i
 
 abbrev walk-calls : ℕ → walk-lts.Claims
 walk-calls t = (kind-at-reads.Asked, kind-at-reads.Learnt, byte-reads.Asked, byte-reads.Learnt, span-reads.Asked, span-reads.Learnt, stands-reads.Asked, stands-reads.Learnt, child-rule-reads.Asked, child-rule-reads.Learnt, rank-reads.Asked, rank-reads.Learnt, number-reads.Asked, number-reads.Learnt, walk-below t, walk.Post)

@@ -4,8 +4,6 @@ use borrow.Author.Tests.{not-true, not-false, le-leb, lt-leb}
 use native.Mathlib.Omega.{arith}
 use Rattle.judge.proofs.child_rule.Statement.{statement}
 use Rattle.judge.proofs.child_rule.Tie as tie
-use Rattle.judge.proofs.child_rule.Reads as reads
-use Rattle.judge.proofs.child_rule.Lts as lts
 
 returns : tie.Need-returns
 unfolding childRule
@@ -17,11 +15,11 @@ returns-2 c = rw (le-leb _ _ (c .before .if1 .left), not-true (c .before .before
 
 returns-3 : tie.Need-returns-3
 unfolding childRule
-returns-3 c = rw (le-leb _ _ (c .before .before .if1 .left), not-false (c .before .before .before .args .ok) (c .before .if2 .left), lt-leb (c .before .before .before .args .d + 1) 16 (omega arith))
+returns-3 c = rw (le-leb _ _ (c .before .before .if1 .left), not-false (c .before .before .before .args .ok) (c .before .if2 .left), lt-leb (c .before .before .before .args .depth + 1) 16 (omega arith))
 
 returns-4 : tie.Need-returns-4
 unfolding childRule
-returns-4 c = rw (le-leb _ _ (c .before .before .if1 .left), not-false (c .before .before .before .args .ok) (c .before .if2 .left), le-leb (c .before .before .before .args .d + 1) 16 (omega arith))
+returns-4 c = rw (le-leb _ _ (c .before .before .if1 .left), not-false (c .before .before .before .args .ok) (c .before .if2 .left), le-leb (c .before .before .before .args .depth + 1) 16 (omega arith))
 
 pub child-rule-spec : {M : Type 1} → statement M
 child-rule-spec = tie.close (tie.spec returns returns-2 returns-3 returns-4)

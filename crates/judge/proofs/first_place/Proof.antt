@@ -4,14 +4,6 @@ use native.Mathlib.Omega.{arith}
 use borrow.Author.Needs.{needs}
 use Rattle.judge.proofs.first_place.Statement.{statement}
 use Rattle.judge.proofs.first_place.Tie as tie
-use Rattle.judge.proofs.first_place.Reads as reads
-use Rattle.judge.proofs.first_place.Lts as lts
-use Rattle.record.proofs.byte.Reads as byte-reads
-use Rattle.fields.proofs.kind_at.Reads as kind-at-reads
-use Rattle.record.proofs.span.Reads as span-reads
-use Rattle.judge.proofs.number.Reads as number-reads
-use Rattle.judge.proofs.up_to.Reads as up-to-reads
-use Rattle.judge.proofs.walk.Reads as walk-reads
 
 returns : tie.Need-returns
 returns c = top-kind _ (c .before .before .before .before .before .before .pre .0) (c .before .before .before .before .before .before .pre .1) (c .before .before .before .before .kind-at .ensures) (c .before .before .before .number .ensures) (c .before .up-to .ensures) (not-true _ (c .if1 .taken))

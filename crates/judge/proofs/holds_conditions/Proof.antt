@@ -2,8 +2,6 @@ use Rattle.judge.specs.Place.{holdsConditions}
 use borrow.Author.Tests.{ne-eqb}
 use Rattle.judge.proofs.holds_conditions.Statement.{statement}
 use Rattle.judge.proofs.holds_conditions.Tie as tie
-use Rattle.judge.proofs.holds_conditions.Reads as reads
-use Rattle.judge.proofs.holds_conditions.Lts as lts
 
 returns : tie.Need-returns
 unfolding holdsConditions

@@ -3,8 +3,6 @@ use native.Mathlib.Omega.{arith}
 use borrow.Author.Tests.{ne-eqb}
 use Rattle.judge.proofs.single.Statement.{statement}
 use Rattle.judge.proofs.single.Tie as tie
-use Rattle.judge.proofs.single.Reads as reads
-use Rattle.judge.proofs.single.Lts as lts
 
 returns : tie.Need-returns
 unfolding singleOf

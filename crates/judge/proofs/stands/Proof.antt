@@ -3,12 +3,6 @@ use borrow.Author.Tests.{not-true, not-false}
 use borrow.Author.Needs.{needs}
 use Rattle.judge.proofs.stands.Statement.{statement}
 use Rattle.judge.proofs.stands.Tie as tie
-use Rattle.judge.proofs.stands.Reads as reads
-use Rattle.judge.proofs.stands.Lts as lts
-use Rattle.judge.proofs.rank.Reads as rank-reads
-use Rattle.judge.proofs.step.Reads as step-reads
-use Rattle.judge.proofs.takes.Reads as takes-reads
-use Rattle.judge.proofs.under_ok.Reads as under-ok-reads
 
 returns : tie.Need-returns
 returns c = not-taken _ _ _ _ _ (c .before .takes .ensures) (not-true _ (c .if1 .taken))

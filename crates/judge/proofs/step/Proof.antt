@@ -1,9 +1,6 @@
 use borrow.Author.Needs.{needs}
 use Rattle.judge.proofs.step.Statement.{statement}
 use Rattle.judge.proofs.step.Tie as tie
-use Rattle.judge.proofs.step.Reads as reads
-use Rattle.judge.proofs.step.Lts as lts
-use Rattle.judge.proofs.single.Reads as single-reads
 
 returns-7 : tie.Need-returns-7
 returns-7 c = rw (c .before .enum-told7 .given .1) (c .single .ensures)

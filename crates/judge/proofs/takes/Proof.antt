@@ -1,10 +1,6 @@
 use borrow.Author.Needs.{needs}
 use Rattle.judge.proofs.takes.Statement.{statement}
 use Rattle.judge.proofs.takes.Tie as tie
-use Rattle.judge.proofs.takes.Reads as reads
-use Rattle.judge.proofs.takes.Lts as lts
-use Rattle.judge.proofs.holds_conditions.Reads as holds-conditions-reads
-use Rattle.judge.proofs.up_to.Reads as up-to-reads
 
 returns : tie.Need-returns
 returns c = rw (c .enum-told .given .1)

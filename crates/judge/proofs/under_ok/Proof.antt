@@ -1,8 +1,6 @@
 use borrow.Author.Needs.{needs}
 use Rattle.judge.proofs.under_ok.Statement.{statement}
 use Rattle.judge.proofs.under_ok.Tie as tie
-use Rattle.judge.proofs.under_ok.Reads as reads
-use Rattle.judge.proofs.under_ok.Lts as lts
 
 returns-6 : tie.Need-returns-6
 returns-6 c = rw (c .enum-told6 .given .1)

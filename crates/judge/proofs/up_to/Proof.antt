@@ -1,8 +1,6 @@
 use borrow.Author.Tests.{lt-leb, le-leb}
 use Rattle.judge.proofs.up_to.Statement.{statement}
 use Rattle.judge.proofs.up_to.Tie as tie
-use Rattle.judge.proofs.up_to.Reads as reads
-use Rattle.judge.proofs.up_to.Lts as lts
 
 returns : tie.Need-returns
 returns c = simp (lt-leb 1 _ (c .if1 .taken))

@@ -1,7 +1,7 @@
-use Rattle.probe.specs.Packed.{packedOf}
 use mathlib.Core.Path.{ap, sym}
 use native.Mathlib.Omega.{arith}
 use borrow.Author.Needs.{needs}
+use Rattle.probe.specs.Packed.{packedOf}
 use Rattle.probe.proofs.packed.Statement.{statement}
 use Rattle.probe.proofs.packed.Tie as tie
 

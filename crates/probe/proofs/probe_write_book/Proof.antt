@@ -1,9 +1,9 @@
-use Rattle.probe.proofs.Laws.{write-small}
-use Rattle.probe.specs.Packed.{packedOf}
-use Rattle.text.specs.Text.{book}
 use mathlib.Core.Path.{ap, _∙_}
 use native.Mathlib.Omega.{arith}
 use borrow.Author.Needs.{needs}
+use Rattle.text.specs.Text.{book}
+use Rattle.probe.specs.Packed.{packedOf}
+use Rattle.probe.proofs.Laws.{write-small}
 use Rattle.probe.proofs.probe_write_book.Statement.{statement}
 use Rattle.probe.proofs.probe_write_book.Tie as tie
 

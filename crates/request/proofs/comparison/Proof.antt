@@ -3,6 +3,7 @@ use native.Mathlib.Omega.{arith}
 use mathlib.Core.Path.{_≡_, refl, sym, ap, _∙_}
 use Prim.Native.Nat.{_≤_, _-_, _/_}
 use lib.ListN.{length}
+use Rattle.record.specs.Bytes.{size}
 use Rattle.meaning.specs.Reading.{bagFrom, bagsOf}
 use Rattle.meaning.specs.Meaning.{comparisonOf, truthOf}
 use Rattle.request.proofs.Laws.{compareThen, compare-all, compare-miss, compare-again, compare-first, compare-one, compare-none}
@@ -11,7 +12,7 @@ use Rattle.request.proofs.comparison.Tie as tie
 
 abbrev Inv-loop : tie.InvT-loop
 Inv-loop request t total k₀ found₀ given₀ k found given =
-    (total ≡ length request / 16) × (k ≤ total) × (compareThen found given t (bagFrom request (t .key) (total - k) k) ≡ comparisonOf (bagsOf request) t)
+    (total ≡ length request / size) × (k ≤ total) × (compareThen found given t (bagFrom request (t .key) (total - k) k) ≡ comparisonOf (bagsOf request) t)
 
 abbrev μ-loop : tie.MeasureT-loop
 μ-loop request t total k₀ found₀ given₀ k found given = total - k

@@ -3,6 +3,7 @@ use native.Mathlib.Omega.{arith}
 use mathlib.Core.Path.{_≡_, refl}
 use Prim.Native.Nat.{_≤_, _-_, _/_}
 use lib.ListN.{length}
+use Rattle.record.specs.Bytes.{size}
 use Rattle.meaning.specs.Reading.{bagFrom, bagsOf}
 use Rattle.meaning.specs.Meaning.{matchOf}
 use Rattle.request.proofs.Laws.{matchThen, match-all, match-miss, match-true, match-false, match-empty, match-none}
@@ -11,7 +12,7 @@ use Rattle.request.proofs.matches.Tie as tie
 
 abbrev Inv-loop : tie.InvT-loop
 Inv-loop request t total k₀ empty₀ k empty =
-    (total ≡ length request / 16) × (k ≤ total) × (matchThen empty t (bagFrom request (t .key) (total - k) k) ≡ matchOf (bagsOf request) t)
+    (total ≡ length request / size) × (k ≤ total) × (matchThen empty t (bagFrom request (t .key) (total - k) k) ≡ matchOf (bagsOf request) t)
 
 abbrev μ-loop : tie.MeasureT-loop
 μ-loop request t total k₀ empty₀ k empty = total - k

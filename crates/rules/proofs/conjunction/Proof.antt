@@ -1,85 +1,39 @@
+use borrow.Author.Needs.{needs}
+use native.Mathlib.Omega.{arith}
+use mathlib.Core.Path.{_≡_}
+use Prim.Native.Nat.{_+_, _-_, _<_}
+use Rattle.record.specs.Forest.{forest}
+use Rattle.meaning.specs.Logic.{andAll, andOf}
+use Rattle.meaning.specs.Meaning.{matchOf, conjunctionOf}
+use Rattle.meaning.specs.Reading.{conjunctionAt, bagsOf}
+use Rattle.rules.proofs.Loops.{ands, then, turn, stop, end}
+use Rattle.rules.proofs.Laws.{truths, truths-none, matchRead, matches-more, conjunction-many, conjunction-one}
 use Rattle.rules.proofs.conjunction.Statement.{statement}
 use Rattle.rules.proofs.conjunction.Tie as tie
-use Rattle.rules.proofs.conjunction.Reads as reads
-use Rattle.rules.proofs.conjunction.Lts as lts
-use Rattle.meaning.proofs.and3.Reads as and3-reads
-use Rattle.record.proofs.span_in.Reads as span-in-reads
-use Rattle.request.proofs.matches.Reads as matches-reads
-use Rattle.rules.proofs.match_at.Reads as match-at-reads
 
 abbrev Inv-loop : tie.InvT-loop
-Inv-loop book request i s at₀ left₀ acc₀ at left acc = ?
+Inv-loop book request i s at₀ left₀ acc₀ at left acc =
+    (at + left ≡ i + s) × (left < s)
+    × (then andAll andOf acc (truths (matchOf (bagsOf request)) (matchRead book) (forest book at left)) ≡ conjunctionOf (bagsOf request) (conjunctionAt book i (forest book (i + 1) (s - 1))))
 
 abbrev μ-loop : tie.MeasureT-loop
-μ-loop book request i s at₀ left₀ acc₀ at left acc = ?
+μ-loop book request i s at₀ left₀ acc₀ at left acc = left
 
--- src/lib.rt:66:42
-match-at-requires : tie.Need-match-at-requires Inv-loop μ-loop
-match-at-requires c κs = ?
-
--- src/lib.rt:66:9
-matches-requires : tie.Need-matches-requires Inv-loop μ-loop
-matches-requires c κs = ?
-
--- src/lib.rt:66:9
 returns : tie.Need-returns Inv-loop μ-loop
-returns c = ?
+returns c = conjunction-one _ _ _ _ (c .before .before .if1 .taken) (c .before .match-at .ensures) (c .matches .ensures)
 
--- src/lib.rt:68:18
-add-at : tie.Need-add-at Inv-loop μ-loop
-add-at c = ?
-
--- src/lib.rt:69:20
-sub-left : tie.Need-sub-left Inv-loop μ-loop
-sub-left c = ?
-
--- src/lib.rt:71:5
 loop-holds : tie.Need-loop-holds Inv-loop μ-loop
-loop-holds c = ?
+unfolding then
+loop-holds c = (omega arith, omega arith, conjunction-many _ _ _ _ (c .before .before .before .pre .0) (c .if1 .left))
 
--- src/lib.rt:72:13
-span-in-requires : tie.Need-span-in-requires Inv-loop μ-loop
-span-in-requires c κs = ?
-
--- src/lib.rt:73:43
-match-at-requires-2 : tie.Need-match-at-requires-2 Inv-loop μ-loop
-match-at-requires-2 c κs = ?
-
--- src/lib.rt:73:13
-matches-requires-2 : tie.Need-matches-requires-2 Inv-loop μ-loop
-matches-requires-2 c κs = ?
-
--- src/lib.rt:75:13
-enum-told : tie.Need-enum-told Inv-loop μ-loop
-enum-told c = ?
-
--- src/lib.rt:75:13
 returns-2 : tie.Need-returns-2 Inv-loop μ-loop
-returns-2 c = ?
+returns-2 c = stop ands _ (matches-more _ _ _ (c .before .before .before .before .before .loop-test .taken) (c .before .before .before .before .span-in .ensures .0) _ (c .before .before .before .match-at2 .ensures) (c .before .before .matches2 .ensures)) (c .enum-told .given .1) (c .before .before .before .before .before .before .loop .inv .2)
 
--- src/lib.rt:77:9
-and3-requires : tie.Need-and3-requires Inv-loop μ-loop
-and3-requires c κs = ?
-
--- src/lib.rt:78:9
-add-at-2 : tie.Need-add-at-2 Inv-loop μ-loop
-add-at-2 c = ?
-
--- src/lib.rt:79:9
-sub-left-2 : tie.Need-sub-left-2 Inv-loop μ-loop
-sub-left-2 c = ?
-
--- src/lib.rt:71:5
-loop-less : tie.Need-loop-less Inv-loop μ-loop
-loop-less c = ?
-
--- src/lib.rt:71:5
 loop-again : tie.Need-loop-again Inv-loop μ-loop
-loop-again c = ?
+loop-again c = (omega arith, omega arith, turn ands _ (matches-more _ _ _ (c .before .before .before .before .before .loop-test .taken) (c .before .before .before .before .span-in .ensures .0) _ (c .before .before .before .match-at2 .ensures) (c .before .before .matches2 .ensures)) (c .and3 .ensures) (c .before .before .before .before .before .before .loop .inv .2))
 
--- src/lib.rt:61:1
 returns-3 : tie.Need-returns-3 Inv-loop μ-loop
-returns-3 c = ?
+returns-3 c = end ands _ (truths-none _ _ _ (c .loop-test .left) _ _) (c .before .loop .inv .2)
 
 pub conjunction-spec : {M : Type 1} → statement M
 conjunction-spec =
@@ -87,20 +41,20 @@ conjunction-spec =
     (tie.spec
     Inv-loop
     μ-loop
-    match-at-requires
-    matches-requires
+    (λ c κs. search needs)
+    (λ c κs. search needs)
     returns
-    add-at
-    sub-left
+    (λ c. search needs)
+    (λ c. search needs)
     loop-holds
-    span-in-requires
-    match-at-requires-2
-    matches-requires-2
-    enum-told
+    (λ c κs. search needs)
+    (λ c κs. search needs)
+    (λ c κs. search needs)
+    (λ c. search needs)
     returns-2
-    and3-requires
-    add-at-2
-    sub-left-2
-    loop-less
+    (λ c κs. search needs)
+    (λ c. search needs)
+    (λ c. search needs)
+    (λ c. search needs)
     loop-again
     returns-3)

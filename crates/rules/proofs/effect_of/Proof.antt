@@ -1,14 +1,10 @@
 use borrow.Author.Tests.{ne-eqb}
 use Rattle.rules.proofs.effect_of.Statement.{statement}
 use Rattle.rules.proofs.effect_of.Tie as tie
-use Rattle.rules.proofs.effect_of.Reads as reads
-use Rattle.rules.proofs.effect_of.Lts as lts
 
--- src/lib.rt:218:9
 returns : tie.Need-returns
 returns c = rw (c .if1 .taken)
 
--- src/lib.rt:214:1
 returns-2 : tie.Need-returns-2
 returns-2 c = rw (ne-eqb _ 1 (c .if1 .left))
 

@@ -1,18 +1,13 @@
 use borrow.Author.Tests.{ne-eqb}
 use Rattle.rules.proofs.over_rules.Statement.{statement}
 use Rattle.rules.proofs.over_rules.Tie as tie
-use Rattle.rules.proofs.over_rules.Reads as reads
-use Rattle.rules.proofs.over_rules.Lts as lts
 
--- src/lib.rt:260:9
 returns : tie.Need-returns
 returns c = rw (c .if1 .taken)
 
--- src/lib.rt:263:9
 returns-2 : tie.Need-returns-2
 returns-2 c = rw (c .if2 .taken)
 
--- src/lib.rt:256:1
 returns-3 : tie.Need-returns-3
 returns-3 c = rw (ne-eqb _ 1 (c .before .if1 .left), ne-eqb _ 2 (c .if2 .left))
 

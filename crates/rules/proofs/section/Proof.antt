@@ -1,76 +1,39 @@
+use borrow.Author.Needs.{needs}
+use native.Mathlib.Omega.{arith}
+use mathlib.Core.Path.{_≡_}
+use Prim.Native.Nat.{_+_, _-_, _<_}
+use Rattle.record.specs.Forest.{forest}
+use Rattle.meaning.specs.Logic.{orAll, orOf}
+use Rattle.meaning.specs.Meaning.{conjunctionOf, sectionOf}
+use Rattle.meaning.specs.Reading.{conjunctionAt, sectionAt, bagsOf}
+use Rattle.rules.proofs.Loops.{ors, then, turn, stop, end}
+use Rattle.rules.proofs.Laws.{truths, truths-none, conjunctions-more, section-many, section-one}
 use Rattle.rules.proofs.section.Statement.{statement}
 use Rattle.rules.proofs.section.Tie as tie
-use Rattle.rules.proofs.section.Reads as reads
-use Rattle.rules.proofs.section.Lts as lts
-use Rattle.meaning.proofs.or3.Reads as or3-reads
-use Rattle.record.proofs.span_in.Reads as span-in-reads
-use Rattle.rules.proofs.conjunction.Reads as conjunction-reads
 
 abbrev Inv-loop : tie.InvT-loop
-Inv-loop book request i s at₀ left₀ acc₀ at left acc = ?
+Inv-loop book request i s at₀ left₀ acc₀ at left acc =
+    (at + left ≡ i + s) × (left < s)
+    × (then orAll orOf acc (truths (conjunctionOf (bagsOf request)) (conjunctionAt book) (forest book at left)) ≡ sectionOf (bagsOf request) (sectionAt book i (forest book (i + 1) (s - 1))))
 
 abbrev μ-loop : tie.MeasureT-loop
-μ-loop book request i s at₀ left₀ acc₀ at left acc = ?
+μ-loop book request i s at₀ left₀ acc₀ at left acc = left
 
--- src/lib.rt:97:9
-conjunction-requires : tie.Need-conjunction-requires Inv-loop μ-loop
-conjunction-requires c κs = ?
-
--- src/lib.rt:97:9
 returns : tie.Need-returns Inv-loop μ-loop
-returns c = ?
+returns c = section-one _ _ _ _ (c .before .if1 .taken) (c .conjunction .ensures)
 
--- src/lib.rt:99:18
-add-at : tie.Need-add-at Inv-loop μ-loop
-add-at c = ?
-
--- src/lib.rt:100:20
-sub-left : tie.Need-sub-left Inv-loop μ-loop
-sub-left c = ?
-
--- src/lib.rt:102:5
 loop-holds : tie.Need-loop-holds Inv-loop μ-loop
-loop-holds c = ?
+unfolding then
+loop-holds c = (omega arith, omega arith, section-many _ _ _ _ (c .before .before .before .pre .0) (c .if1 .left))
 
--- src/lib.rt:103:13
-span-in-requires : tie.Need-span-in-requires Inv-loop μ-loop
-span-in-requires c κs = ?
-
--- src/lib.rt:104:13
-conjunction-requires-2 : tie.Need-conjunction-requires-2 Inv-loop μ-loop
-conjunction-requires-2 c κs = ?
-
--- src/lib.rt:106:13
-enum-told : tie.Need-enum-told Inv-loop μ-loop
-enum-told c = ?
-
--- src/lib.rt:106:13
 returns-2 : tie.Need-returns-2 Inv-loop μ-loop
-returns-2 c = ?
+returns-2 c = stop ors _ (conjunctions-more _ _ _ (c .before .before .before .before .loop-test .taken) (c .before .before .before .span-in .ensures .0) _ (c .before .before .conjunction2 .ensures)) (c .enum-told .given .1) (c .before .before .before .before .before .loop .inv .2)
 
--- src/lib.rt:108:9
-or3-requires : tie.Need-or3-requires Inv-loop μ-loop
-or3-requires c κs = ?
-
--- src/lib.rt:109:9
-add-at-2 : tie.Need-add-at-2 Inv-loop μ-loop
-add-at-2 c = ?
-
--- src/lib.rt:110:9
-sub-left-2 : tie.Need-sub-left-2 Inv-loop μ-loop
-sub-left-2 c = ?
-
--- src/lib.rt:102:5
-loop-less : tie.Need-loop-less Inv-loop μ-loop
-loop-less c = ?
-
--- src/lib.rt:102:5
 loop-again : tie.Need-loop-again Inv-loop μ-loop
-loop-again c = ?
+loop-again c = (omega arith, omega arith, turn ors _ (conjunctions-more _ _ _ (c .before .before .before .before .loop-test .taken) (c .before .before .before .span-in .ensures .0) _ (c .before .before .conjunction2 .ensures)) (c .or3 .ensures) (c .before .before .before .before .before .loop .inv .2))
 
--- src/lib.rt:92:1
 returns-3 : tie.Need-returns-3 Inv-loop μ-loop
-returns-3 c = ?
+returns-3 c = end ors _ (truths-none _ _ _ (c .loop-test .left) _ _) (c .before .loop .inv .2)
 
 pub section-spec : {M : Type 1} → statement M
 section-spec =
@@ -78,18 +41,18 @@ section-spec =
     (tie.spec
     Inv-loop
     μ-loop
-    conjunction-requires
+    (λ c κs. search needs)
     returns
-    add-at
-    sub-left
+    (λ c. search needs)
+    (λ c. search needs)
     loop-holds
-    span-in-requires
-    conjunction-requires-2
-    enum-told
+    (λ c κs. search needs)
+    (λ c κs. search needs)
+    (λ c. search needs)
     returns-2
-    or3-requires
-    add-at-2
-    sub-left-2
-    loop-less
+    (λ c κs. search needs)
+    (λ c. search needs)
+    (λ c. search needs)
+    (λ c. search needs)
     loop-again
     returns-3)

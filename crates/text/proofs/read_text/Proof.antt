@@ -1,13 +1,13 @@
-use Rattle.text.proofs.Answers.{read-over, read-wrong, read-missing, read-short, read-done}
-use Rattle.text.proofs.Lined.{judge-lined}
-use Rattle.text.specs.declared.Filled.the-variants.{Refused}
-use Rattle.text.specs.declared.Judged.the-variants.{Lines}
-use Rattle.text.specs.Text.{judgeFrom, outputAfter}
 use lib.ListN.{length}
 use Prim.Native.Nat.{_*_, zero-le}
 use mathlib.Core.Path.{_≡_, refl, sym, ap, _∙_}
 use native.Mathlib.Omega.{arith}
 use borrow.Author.Needs.{needs}
+use Rattle.text.specs.declared.Filled.the-variants.{Refused}
+use Rattle.text.specs.declared.Judged.the-variants.{Lines}
+use Rattle.text.specs.Text.{judgeFrom, outputAfter}
+use Rattle.text.proofs.Answers.{read-over, read-wrong, read-missing, read-short, read-done}
+use Rattle.text.proofs.Lined.{judge-lined}
 use Rattle.text.proofs.read_text.Statement.{statement}
 use Rattle.text.proofs.read_text.Tie as tie
 

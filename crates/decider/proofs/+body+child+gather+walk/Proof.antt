@@ -1,0 +1,377 @@
+use native.Mathlib.Omega.{arith}
+use borrow.Author.Needs.{needs}
+use Prim.Native.Nat.{ℕ, _<_}
+use borrow.Fn.Kinds.{In}
+use borrow.Fn.PlainCycle.{Measures, is, falls, and}
+use Rattle.decider.proofs.body.Reads as body
+use Rattle.decider.proofs.body.Kinds as body-kinds
+use Rattle.decider.proofs.+body+child+gather+walk.Lts-body as body-lts
+use Rattle.decider.proofs.child.Reads as child
+use Rattle.decider.proofs.child.Kinds as child-kinds
+use Rattle.decider.proofs.+body+child+gather+walk.Lts-child as child-lts
+use Rattle.decider.proofs.gather.Reads as gather
+use Rattle.decider.proofs.gather.Kinds as gather-kinds
+use Rattle.decider.proofs.+body+child+gather+walk.Lts-gather as gather-lts
+use Rattle.decider.proofs.walk.Reads as walk
+use Rattle.decider.proofs.walk.Kinds as walk-kinds
+use Rattle.decider.proofs.+body+child+gather+walk.Lts-walk as walk-lts
+use Rattle.algorithm.proofs.begin.Reads as begin-reads
+use Rattle.algorithm.proofs.outcome.Reads as outcome-reads
+use Rattle.algorithm.proofs.settles.Reads as settles-reads
+use Rattle.algorithm.proofs.take_in.Reads as take-in-reads
+use Rattle.decider.proofs.choose.Reads as choose-reads
+use Rattle.decider.proofs.is_only.Reads as is-only-reads
+use Rattle.decider.proofs.is_party.Reads as is-party-reads
+use Rattle.decider.proofs.over_policies.Reads as over-policies-reads
+use Rattle.decider.proofs.own.Reads as own-reads
+use Rattle.decider.proofs.places.settle.Reads as settle-reads
+use Rattle.decider.proofs.stay.Reads as stay-reads
+use Rattle.record.proofs.byte.Reads as byte-reads
+use Rattle.record.proofs.span_in.Reads as span-in-reads
+use Rattle.rules.proofs.rules.Reads as rules-reads
+use Rattle.rules.proofs.target.Reads as target-reads
+use Rattle.decider.proofs.+body+child+gather+walk.{statement}
+use Rattle.decider.proofs.+body+child+gather+walk.Tie.{close}
+
+abbrev μ-body : Measures 3 body-kinds.ps ℕ
+μ-body κs a = ?
+
+abbrev μ-child : Measures 3 child-kinds.ps ℕ
+μ-child κs a = ?
+
+abbrev μ-gather : Measures 3 gather-kinds.ps ℕ
+μ-gather κs a = ?
+
+abbrev μ-walk : Measures 3 walk-kinds.ps ℕ
+μ-walk κs a = ?
+
+abbrev body-at : ℕ → In 3 body-kinds.ps
+body-at t = and 3 body-kinds.ps (is 3 body-kinds.ps μ-body t) body.Pre
+
+abbrev body-below : ℕ → In 3 body-kinds.ps
+body-below t = and 3 body-kinds.ps (falls 3 body-kinds.ps _<_ μ-body t) body.Pre
+
+abbrev child-at : ℕ → In 3 child-kinds.ps
+child-at t = and 3 child-kinds.ps (is 3 child-kinds.ps μ-child t) child.Pre
+
+abbrev child-below : ℕ → In 3 child-kinds.ps
+child-below t = and 3 child-kinds.ps (falls 3 child-kinds.ps _<_ μ-child t) child.Pre
+
+abbrev gather-at : ℕ → In 3 gather-kinds.ps
+gather-at t = and 3 gather-kinds.ps (is 3 gather-kinds.ps μ-gather t) gather.Pre
+
+abbrev gather-below : ℕ → In 3 gather-kinds.ps
+gather-below t = and 3 gather-kinds.ps (falls 3 gather-kinds.ps _<_ μ-gather t) gather.Pre
+
+abbrev walk-at : ℕ → In 3 walk-kinds.ps
+walk-at t = and 3 walk-kinds.ps (is 3 walk-kinds.ps μ-walk t) walk.Pre
+
+abbrev walk-below : ℕ → In 3 walk-kinds.ps
+walk-below t = and 3 walk-kinds.ps (falls 3 walk-kinds.ps _<_ μ-walk t) walk.Pre
+
+abbrev body-calls : ℕ → body-lts.Claims
+body-calls t = (gather-below t, gather.Post, own-reads.Asked, own-reads.Learnt)
+
+abbrev child-calls : ℕ → child-lts.Claims
+child-calls t = (target-reads.Asked, target-reads.Learnt, body-below t, body.Post)
+
+abbrev gather-calls : ℕ → gather-lts.Claims
+gather-calls t = (byte-reads.Asked, byte-reads.Learnt, rules-reads.Asked, rules-reads.Learnt, over-policies-reads.Asked, over-policies-reads.Learnt, is-only-reads.Asked, is-only-reads.Learnt, choose-reads.Asked, choose-reads.Learnt, body-below t, body.Post, walk-below t, walk.Post)
+
+abbrev walk-calls : ℕ → walk-lts.Claims
+walk-calls t = (begin-reads.Asked, begin-reads.Learnt, span-in-reads.Asked, span-in-reads.Learnt, is-party-reads.Asked, is-party-reads.Learnt, child-below t, child.Post, outcome-reads.Asked, outcome-reads.Learnt, take-in-reads.Asked, take-in-reads.Learnt, stay-reads.Asked, stay-reads.Learnt, settle-reads.Asked, settle-reads.Learnt, settles-reads.Asked, settles-reads.Learnt)
+
+body-gather-requires : (t : ℕ) → body-lts.Need-gather-requires (body-calls t) (body-at t) body.Post
+body-gather-requires t c κs = search needs
+
+body-add-own : (t : ℕ) → body-lts.Need-add-own (body-calls t) (body-at t) body.Post
+body-add-own t c = search needs
+
+body-sub-own : (t : ℕ) → body-lts.Need-sub-own (body-calls t) (body-at t) body.Post
+body-sub-own t c = search needs
+
+body-own-requires : (t : ℕ) → body-lts.Need-own-requires (body-calls t) (body-at t) body.Post
+body-own-requires t c κs = search needs
+
+body-same-length : (t : ℕ) → body-lts.Need-same-length (body-calls t) (body-at t) body.Post
+body-same-length t c = search needs
+
+body-returns : (t : ℕ) → body-lts.Need-returns (body-calls t) (body-at t) body.Post
+body-returns t c = search needs
+
+child-add-target : (t : ℕ) → child-lts.Need-add-target (child-calls t) (child-at t) child.Post
+child-add-target t c = search needs
+
+child-sub-target : (t : ℕ) → child-lts.Need-sub-target (child-calls t) (child-at t) child.Post
+child-sub-target t c = search needs
+
+child-target-requires : (t : ℕ) → child-lts.Need-target-requires (child-calls t) (child-at t) child.Post
+child-target-requires t c κs = search needs
+
+child-enum-told : (t : ℕ) → child-lts.Need-enum-told (child-calls t) (child-at t) child.Post
+child-enum-told t c = search needs
+
+child-enum-told-2 : (t : ℕ) → child-lts.Need-enum-told-2 (child-calls t) (child-at t) child.Post
+child-enum-told-2 t c = search needs
+
+child-enum-told-3 : (t : ℕ) → child-lts.Need-enum-told-3 (child-calls t) (child-at t) child.Post
+child-enum-told-3 t c = search needs
+
+child-body-requires : (t : ℕ) → child-lts.Need-body-requires (child-calls t) (child-at t) child.Post
+child-body-requires t c κs = search needs
+
+child-returns : (t : ℕ) → child-lts.Need-returns (child-calls t) (child-at t) child.Post
+child-returns t c = search needs
+
+child-returns-2 : (t : ℕ) → child-lts.Need-returns-2 (child-calls t) (child-at t) child.Post
+child-returns-2 t c = search needs
+
+child-same-length : (t : ℕ) → child-lts.Need-same-length (child-calls t) (child-at t) child.Post
+child-same-length t c = search needs
+
+child-returns-3 : (t : ℕ) → child-lts.Need-returns-3 (child-calls t) (child-at t) child.Post
+child-returns-3 t c = search needs
+
+gather-byte-requires : (t : ℕ) → gather-lts.Need-byte-requires (gather-calls t) (gather-at t) gather.Post
+gather-byte-requires t c κs = search needs
+
+gather-byte-requires-2 : (t : ℕ) → gather-lts.Need-byte-requires-2 (gather-calls t) (gather-at t) gather.Post
+gather-byte-requires-2 t c κs = search needs
+
+gather-add-rules : (t : ℕ) → gather-lts.Need-add-rules (gather-calls t) (gather-at t) gather.Post
+gather-add-rules t c = search needs
+
+gather-sub-rules : (t : ℕ) → gather-lts.Need-sub-rules (gather-calls t) (gather-at t) gather.Post
+gather-sub-rules t c = search needs
+
+gather-rules-requires : (t : ℕ) → gather-lts.Need-rules-requires (gather-calls t) (gather-at t) gather.Post
+gather-rules-requires t c κs = search needs
+
+gather-returns : (t : ℕ) → gather-lts.Need-returns (gather-calls t) (gather-at t) gather.Post
+gather-returns t c = search needs
+
+gather-over-policies-requires : (t : ℕ) → gather-lts.Need-over-policies-requires (gather-calls t) (gather-at t) gather.Post
+gather-over-policies-requires t c κs = search needs
+
+gather-is-only-requires : (t : ℕ) → gather-lts.Need-is-only-requires (gather-calls t) (gather-at t) gather.Post
+gather-is-only-requires t c κs = search needs
+
+gather-add-choose : (t : ℕ) → gather-lts.Need-add-choose (gather-calls t) (gather-at t) gather.Post
+gather-add-choose t c = search needs
+
+gather-sub-choose : (t : ℕ) → gather-lts.Need-sub-choose (gather-calls t) (gather-at t) gather.Post
+gather-sub-choose t c = search needs
+
+gather-choose-requires : (t : ℕ) → gather-lts.Need-choose-requires (gather-calls t) (gather-at t) gather.Post
+gather-choose-requires t c κs = search needs
+
+gather-enum-told : (t : ℕ) → gather-lts.Need-enum-told (gather-calls t) (gather-at t) gather.Post
+gather-enum-told t c = search needs
+
+gather-enum-told-2 : (t : ℕ) → gather-lts.Need-enum-told-2 (gather-calls t) (gather-at t) gather.Post
+gather-enum-told-2 t c = search needs
+
+gather-enum-known-p : (t : ℕ) → gather-lts.Need-enum-known-p (gather-calls t) (gather-at t) gather.Post
+gather-enum-known-p t c = search needs
+
+gather-sub-body : (t : ℕ) → gather-lts.Need-sub-body (gather-calls t) (gather-at t) gather.Post
+gather-sub-body t c = search needs
+
+gather-body-requires : (t : ℕ) → gather-lts.Need-body-requires (gather-calls t) (gather-at t) gather.Post
+gather-body-requires t c κs = search needs
+
+gather-returns-2 : (t : ℕ) → gather-lts.Need-returns-2 (gather-calls t) (gather-at t) gather.Post
+gather-returns-2 t c = search needs
+
+gather-returns-3 : (t : ℕ) → gather-lts.Need-returns-3 (gather-calls t) (gather-at t) gather.Post
+gather-returns-3 t c = search needs
+
+gather-same-length : (t : ℕ) → gather-lts.Need-same-length (gather-calls t) (gather-at t) gather.Post
+gather-same-length t c = search needs
+
+gather-returns-4 : (t : ℕ) → gather-lts.Need-returns-4 (gather-calls t) (gather-at t) gather.Post
+gather-returns-4 t c = search needs
+
+gather-add-walk : (t : ℕ) → gather-lts.Need-add-walk (gather-calls t) (gather-at t) gather.Post
+gather-add-walk t c = search needs
+
+gather-sub-walk : (t : ℕ) → gather-lts.Need-sub-walk (gather-calls t) (gather-at t) gather.Post
+gather-sub-walk t c = search needs
+
+gather-walk-requires : (t : ℕ) → gather-lts.Need-walk-requires (gather-calls t) (gather-at t) gather.Post
+gather-walk-requires t c κs = search needs
+
+gather-same-length-2 : (t : ℕ) → gather-lts.Need-same-length-2 (gather-calls t) (gather-at t) gather.Post
+gather-same-length-2 t c = search needs
+
+gather-returns-5 : (t : ℕ) → gather-lts.Need-returns-5 (gather-calls t) (gather-at t) gather.Post
+gather-returns-5 t c = search needs
+
+abbrev walk-Inv-loop : walk-lts.InvT-loop
+walk-Inv-loop book request from count a depth out₀ n i₀ left₀ acc₀ m₀ out i left acc m = ?
+
+abbrev walk-μ-loop : walk-lts.MeasureT-loop
+walk-μ-loop book request from count a depth out₀ n i₀ left₀ acc₀ m₀ out i left acc m = ?
+
+walk-begin-requires : (t : ℕ) → walk-lts.Need-begin-requires (walk-calls t) (walk-at t) walk.Post walk-Inv-loop walk-μ-loop
+walk-begin-requires t c κs = search needs
+
+walk-loop-holds : (t : ℕ) → walk-lts.Need-loop-holds (walk-calls t) (walk-at t) walk.Post walk-Inv-loop walk-μ-loop
+walk-loop-holds t c = search needs
+
+walk-span-in-requires : (t : ℕ) → walk-lts.Need-span-in-requires (walk-calls t) (walk-at t) walk.Post walk-Inv-loop walk-μ-loop
+walk-span-in-requires t c κs = search needs
+
+walk-is-party-requires : (t : ℕ) → walk-lts.Need-is-party-requires (walk-calls t) (walk-at t) walk.Post walk-Inv-loop walk-μ-loop
+walk-is-party-requires t c κs = search needs
+
+walk-add-i : (t : ℕ) → walk-lts.Need-add-i (walk-calls t) (walk-at t) walk.Post walk-Inv-loop walk-μ-loop
+walk-add-i t c = search needs
+
+walk-sub-left : (t : ℕ) → walk-lts.Need-sub-left (walk-calls t) (walk-at t) walk.Post walk-Inv-loop walk-μ-loop
+walk-sub-left t c = search needs
+
+walk-loop-less : (t : ℕ) → walk-lts.Need-loop-less (walk-calls t) (walk-at t) walk.Post walk-Inv-loop walk-μ-loop
+walk-loop-less t c = search needs
+
+walk-loop-again : (t : ℕ) → walk-lts.Need-loop-again (walk-calls t) (walk-at t) walk.Post walk-Inv-loop walk-μ-loop
+walk-loop-again t c = search needs
+
+walk-add-next : (t : ℕ) → walk-lts.Need-add-next (walk-calls t) (walk-at t) walk.Post walk-Inv-loop walk-μ-loop
+walk-add-next t c = search needs
+
+walk-sub-child : (t : ℕ) → walk-lts.Need-sub-child (walk-calls t) (walk-at t) walk.Post walk-Inv-loop walk-μ-loop
+walk-sub-child t c = search needs
+
+walk-child-requires : (t : ℕ) → walk-lts.Need-child-requires (walk-calls t) (walk-at t) walk.Post walk-Inv-loop walk-μ-loop
+walk-child-requires t c κs = search needs
+
+walk-outcome-requires : (t : ℕ) → walk-lts.Need-outcome-requires (walk-calls t) (walk-at t) walk.Post walk-Inv-loop walk-μ-loop
+walk-outcome-requires t c κs = search needs
+
+walk-take-in-requires : (t : ℕ) → walk-lts.Need-take-in-requires (walk-calls t) (walk-at t) walk.Post walk-Inv-loop walk-μ-loop
+walk-take-in-requires t c κs = search needs
+
+walk-outcome-requires-2 : (t : ℕ) → walk-lts.Need-outcome-requires-2 (walk-calls t) (walk-at t) walk.Post walk-Inv-loop walk-μ-loop
+walk-outcome-requires-2 t c κs = search needs
+
+walk-stay-requires : (t : ℕ) → walk-lts.Need-stay-requires (walk-calls t) (walk-at t) walk.Post walk-Inv-loop walk-μ-loop
+walk-stay-requires t c κs = search needs
+
+walk-stay-requires-2 : (t : ℕ) → walk-lts.Need-stay-requires-2 (walk-calls t) (walk-at t) walk.Post walk-Inv-loop walk-μ-loop
+walk-stay-requires-2 t c κs = search needs
+
+walk-settle-requires : (t : ℕ) → walk-lts.Need-settle-requires (walk-calls t) (walk-at t) walk.Post walk-Inv-loop walk-μ-loop
+walk-settle-requires t c κs = search needs
+
+walk-settles-requires : (t : ℕ) → walk-lts.Need-settles-requires (walk-calls t) (walk-at t) walk.Post walk-Inv-loop walk-μ-loop
+walk-settles-requires t c κs = search needs
+
+walk-same-length : (t : ℕ) → walk-lts.Need-same-length (walk-calls t) (walk-at t) walk.Post walk-Inv-loop walk-μ-loop
+walk-same-length t c = search needs
+
+walk-returns : (t : ℕ) → walk-lts.Need-returns (walk-calls t) (walk-at t) walk.Post walk-Inv-loop walk-μ-loop
+walk-returns t c = search needs
+
+walk-sub-left-2 : (t : ℕ) → walk-lts.Need-sub-left-2 (walk-calls t) (walk-at t) walk.Post walk-Inv-loop walk-μ-loop
+walk-sub-left-2 t c = search needs
+
+walk-loop-less-2 : (t : ℕ) → walk-lts.Need-loop-less-2 (walk-calls t) (walk-at t) walk.Post walk-Inv-loop walk-μ-loop
+walk-loop-less-2 t c = search needs
+
+walk-loop-again-2 : (t : ℕ) → walk-lts.Need-loop-again-2 (walk-calls t) (walk-at t) walk.Post walk-Inv-loop walk-μ-loop
+walk-loop-again-2 t c = search needs
+
+walk-outcome-requires-3 : (t : ℕ) → walk-lts.Need-outcome-requires-3 (walk-calls t) (walk-at t) walk.Post walk-Inv-loop walk-μ-loop
+walk-outcome-requires-3 t c κs = search needs
+
+walk-same-length-2 : (t : ℕ) → walk-lts.Need-same-length-2 (walk-calls t) (walk-at t) walk.Post walk-Inv-loop walk-μ-loop
+walk-same-length-2 t c = search needs
+
+walk-returns-2 : (t : ℕ) → walk-lts.Need-returns-2 (walk-calls t) (walk-at t) walk.Post walk-Inv-loop walk-μ-loop
+walk-returns-2 t c = search needs
+
+pub +body+child+gather+walk-spec : {M : Type 1} → statement M
++body+child+gather+walk-spec = close μ-body μ-child μ-gather μ-walk (λ t. body-lts.spec (body-calls t)
+    (body-at t)
+    body.Post
+    (body-gather-requires t)
+    (body-add-own t)
+    (body-sub-own t)
+    (body-own-requires t)
+    (body-same-length t)
+    (body-returns t))
+    (λ t. child-lts.spec
+    (target-reads.Asked, target-reads.Learnt, body-below t, body.Post)
+    (child-at t)
+    child.Post
+    (child-add-target t)
+    (child-sub-target t)
+    (child-target-requires t)
+    (child-enum-told t)
+    (child-enum-told-2 t)
+    (child-enum-told-3 t)
+    (child-body-requires t)
+    (child-returns t)
+    (child-returns-2 t)
+    (child-same-length t)
+    (child-returns-3 t))
+    (λ t. gather-lts.spec (gather-calls t)
+    (gather-at t)
+    gather.Post
+    (gather-byte-requires t)
+    (gather-byte-requires-2 t)
+    (gather-add-rules t)
+    (gather-sub-rules t)
+    (gather-rules-requires t)
+    (gather-returns t)
+    (gather-over-policies-requires t)
+    (gather-is-only-requires t)
+    (gather-add-choose t)
+    (gather-sub-choose t)
+    (gather-choose-requires t)
+    (gather-enum-told t)
+    (gather-enum-told-2 t)
+    (gather-enum-known-p t)
+    (gather-sub-body t)
+    (gather-body-requires t)
+    (gather-returns-2 t)
+    (gather-returns-3 t)
+    (gather-same-length t)
+    (gather-returns-4 t)
+    (gather-add-walk t)
+    (gather-sub-walk t)
+    (gather-walk-requires t)
+    (gather-same-length-2 t)
+    (gather-returns-5 t))
+    λ t. walk-lts.spec (walk-calls t)
+    (walk-at t)
+    walk.Post
+    walk-Inv-loop
+    walk-μ-loop
+    (walk-begin-requires t)
+    (walk-loop-holds t)
+    (walk-span-in-requires t)
+    (walk-is-party-requires t)
+    (walk-add-i t)
+    (walk-sub-left t)
+    (walk-loop-less t)
+    (walk-loop-again t)
+    (walk-add-next t)
+    (walk-sub-child t)
+    (walk-child-requires t)
+    (walk-outcome-requires t)
+    (walk-take-in-requires t)
+    (walk-outcome-requires-2 t)
+    (walk-stay-requires t)
+    (walk-stay-requires-2 t)
+    (walk-settle-requires t)
+    (walk-settles-requires t)
+    (walk-same-length t)
+    (walk-returns t)
+    (walk-sub-left-2 t)
+    (walk-loop-less-2 t)
+    (walk-loop-again-2 t)
+    (walk-outcome-requires-3 t)
+    (walk-same-length-2 t)
+    (walk-returns-2 t)

@@ -1,0 +1,83 @@
+-- Books and requests judged by computation. Assumes nothing.
+use mathlib.Core.Path.{_≡_, refl}
+use mathlib.Core.List.{List, [], _∷_}
+use Prim.Native.Nat.{ℕ, zero, suc}
+use lib.ListN.{set}
+use Rattle.record.specs.Bytes.{spanOf}
+use Rattle.record.specs.Refusals.{book, request, noRecord, cutShort, badField, badPlace}
+use Rattle.fields.specs.First.{allBelow, countBelow, lastBelow, firstFrom}
+use Rattle.fields.specs.Fields.{kindOf, kindAt, typeOf, typeAt, finite, zeros, plainOk, sectionOk, comparesOk, obligationOk, fieldOk, obligationsOf}
+use Rattle.fields.specs.Entries.{entryOk}
+use Rattle.judge.specs.Place.{endOf, parentOf, elderOf, depthOf, holdsConditions, singleOf, rankAt, elderRank, standsOk, childRule, childBroken, topOk, brokenAt, placeOk}
+use Rattle.judge.specs.Judge.{judgeRecords, judgeOf}
+use Rattle.judge.specs.Request.{judgeEntries, judgeRequestOf}
+use Rattle.judge.specs.declared.Judged.{Judged}
+use Rattle.judge.specs.declared.Judged.the-variants.{Accepted, Refused}
+use Rattle.judge.specs.declared.JudgedRequest.{JudgedRequest}
+use Rattle.judge.specs.declared.JudgedRequest.the-variants as of-request
+
+-- worked book A of document 01
+bookA : List ℕ
+bookA =
+    2 ∷ 1 ∷ 0 ∷ 6 ∷ 0 ∷ 0 ∷ 0 ∷ 0 ∷ 0 ∷ 0 ∷ 0 ∷ 0 ∷ 0 ∷ 0 ∷ 0 ∷ 0 ∷
+    3 ∷ 1 ∷ 0 ∷ 1 ∷ 0 ∷ 0 ∷ 0 ∷ 0 ∷ 0 ∷ 0 ∷ 0 ∷ 0 ∷ 0 ∷ 0 ∷ 0 ∷ 0 ∷
+    3 ∷ 2 ∷ 0 ∷ 2 ∷ 0 ∷ 0 ∷ 0 ∷ 0 ∷ 0 ∷ 0 ∷ 0 ∷ 0 ∷ 0 ∷ 0 ∷ 0 ∷ 0 ∷
+    7 ∷ 12 ∷ 0 ∷ 1 ∷ 4 ∷ 1 ∷ 0 ∷ 7 ∷ 0 ∷ 0 ∷ 0 ∷ 0 ∷ 0 ∷ 0 ∷ 0 ∷ 50 ∷
+    8 ∷ 1 ∷ 0 ∷ 1 ∷ 0 ∷ 0 ∷ 0 ∷ 17 ∷ 0 ∷ 0 ∷ 0 ∷ 0 ∷ 0 ∷ 0 ∷ 0 ∷ 0 ∷
+    8 ∷ 2 ∷ 0 ∷ 1 ∷ 0 ∷ 0 ∷ 0 ∷ 18 ∷ 0 ∷ 0 ∷ 0 ∷ 0 ∷ 0 ∷ 0 ∷ 0 ∷ 0 ∷ []
+
+-- n nested sets
+nested : ℕ → List ℕ
+nested zero = []
+nested (suc n) = 1 ∷ 1 ∷ 0 ∷ suc n ∷ 0 ∷ 0 ∷ 0 ∷ 0 ∷ 0 ∷ 0 ∷ 0 ∷ 0 ∷ 0 ∷ 0 ∷ 0 ∷ 0 ∷ nested n
+
+-- book A; nothing; one byte too many; greater of a name; an obligation's unused byte; a span past the parent's end; line 1's span, and with a
+-- field rule on a later line; 16 and 17 nested sets
+judged : List Judged
+judged =
+    judgeOf bookA
+    ∷ judgeOf []
+    ∷ judgeOf (0 ∷ bookA)
+    ∷ judgeOf (set bookA 53 2)
+    ∷ judgeOf (set bookA 85 1)
+    ∷ judgeOf (set bookA 19 6)
+    ∷ judgeOf (set bookA 3 5)
+    ∷ judgeOf (set (set bookA 3 5) 83 2)
+    ∷ judgeOf (nested 16)
+    ∷ judgeOf (nested 17) ∷ []
+
+computed : judged
+    ≡ Accepted 6 2
+    ∷ Refused (noRecord book)
+    ∷ Refused (cutShort book)
+    ∷ Refused (badField book 4)
+    ∷ Refused (badField book 6)
+    ∷ Refused (badPlace 2)
+    ∷ Refused (badPlace 1)
+    ∷ Refused (badField book 6)
+    ∷ Accepted 16 0
+    ∷ Refused (badPlace 17) ∷ []
+unfolding bookA nested judged judgeOf judgeRecords spanOf allBelow countBelow lastBelow firstFrom kindOf kindAt typeOf typeAt finite zeros plainOk sectionOk comparesOk obligationOk fieldOk obligationsOf endOf parentOf elderOf depthOf holdsConditions singleOf rankAt elderRank standsOk childRule childBroken topOk brokenAt placeOk
+computed = refl
+
+-- the request of document 01's printed example
+forty : List ℕ
+forty = 4 ∷ 1 ∷ 0 ∷ 7 ∷ 0 ∷ 0 ∷ 0 ∷ 0 ∷ 0 ∷ 0 ∷ 0 ∷ 0 ∷ 0 ∷ 0 ∷ 0 ∷ 40 ∷ []
+
+-- the request; nothing; one byte too many; must-be-present in an entry; an infinite double
+judged-requests : List JudgedRequest
+judged-requests =
+    judgeRequestOf forty
+    ∷ judgeRequestOf []
+    ∷ judgeRequestOf (0 ∷ forty)
+    ∷ judgeRequestOf (set forty 1 129)
+    ∷ judgeRequestOf (set (set (set forty 1 3) 8 127) 9 240) ∷ []
+
+computed-requests : judged-requests
+    ≡ of-request.Accepted 1
+    ∷ of-request.Accepted 0
+    ∷ of-request.Refused (cutShort request)
+    ∷ of-request.Refused (badField request 1)
+    ∷ of-request.Refused (badField request 1) ∷ []
+unfolding forty judged-requests judgeRequestOf judgeEntries allBelow firstFrom typeOf finite zeros entryOk
+computed-requests = refl

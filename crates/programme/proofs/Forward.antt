@@ -1,0 +1,276 @@
+-- Every step moves forward, inside the programme, and leaves a first number that the layout allows. Assumes nothing.
+use Prim.Native.Nat.{ℕ, zero, suc, _+_, _-_, _≤_, _<_, min, max}
+use mathlib.Core.Path.{_≡_, refl, sym, ap, _∙_}
+use mathlib.Core.Bool.{Bool, true, false}
+use mathlib.Core.List.{List}
+use lib.ListN.{length}
+use lib.Dec.{ltb, leb}
+use native.Mathlib.Omega.{arith}
+use borrow.Author.Tests.{ltb-true, leb-true}
+use Rattle.record.specs.Choose.{if, both}
+use Rattle.meaning.specs.Logic.{andOf, orOf, targetAnd}
+use Rattle.meaning.specs.Meaning.{Bags, matchOf, comparisonOf, is, decisionOf}
+use Rattle.meaning.specs.declared.Truth.{Truth}
+use Rattle.meaning.specs.declared.Truth.the-variants.{True, False, Unknown}
+use Rattle.meaning.specs.declared.Decision.{Decision}
+use Rattle.meaning.specs.declared.Decision.the-variants.{Permit, Deny, NotApplicable, Indeterminate}
+use Rattle.meaning.specs.declared.Effect.{Effect}
+use Rattle.meaning.specs.declared.Effect.the-variants.{Permits, Denies}
+use Rattle.algorithm.specs.Fold.{result, settled, absorb}
+use Rattle.algorithm.specs.declared.Acc.{Acc}
+use Rattle.algorithm.specs.declared.Acc.the-variants.{Ranked, Nobody, Pending, Two, One}
+use Rattle.programme.specs.declared.Head.{Head}
+use Rattle.programme.specs.declared.Frame.{Frame}
+use Rattle.programme.specs.declared.Level.{Level}
+use Rattle.programme.specs.declared.Next.{Next}
+use Rattle.programme.specs.declared.Placing.{Placing}
+use Rattle.programme.specs.declared.Placing.the-variants.{Rest, AddPermit, AddDeny, FallPermit, FallDeny, FallBoth, Cut, Down}
+use Rattle.programme.specs.Entry.{Entry, begin, match, further, opens, compare, close, rule, enter, applies, conclude, oblige, leave, shift, finish, extra, reach, fits, lawful}
+use Rattle.programme.specs.Core.{Changing, keep, push, swap, below, back, Out, past, told, settledBy, targetDone, sectionDone, conjunctionDone, matchDone, tell, closed, concluded, noted, pushed, shifted, core}
+use Rattle.programme.specs.Machine.{roomF, roomL, heightAfter, permitsAfter, deniesAfter, cutAfter}
+use Rattle.programme.specs.Layout.{unpackOf, allowed, fetch}
+use Rattle.programme.specs.Step.{headAfter, after, seen, mayStep, stepOf}
+use Rattle.programme.specs.declared.State.{State}
+use Rattle.programme.proofs.Coding.{ranged, held, unpack-pack, allowed-pack}
+use Rattle.programme.specs.Moves.{Ranged}
+
+-- how far a match leads
+target-far : (v : Truth) (j x : ℕ) (r : Decision) → targetDone v j x r .jump ≤ max j x
+target-far True j x r = omega arith
+target-far False j x r = omega arith
+target-far Unknown j x r = omega arith
+
+section-far : (v : Truth) (l : Bool) (j x : ℕ) (t : Truth) (r : Decision) → sectionDone v l j x t r .jump ≤ max j x
+section-far Unknown l j x t r = omega arith
+section-far True true j x t r = target-far t j x r
+section-far False true j x t r = target-far (targetAnd t False) j x r
+section-far True false j x t r = omega arith
+section-far False false j x t r = omega arith
+
+conjunction-far : (v : Truth) (c l : Bool) (i j x : ℕ) (t : Truth) (r : Decision) → conjunctionDone v c l i j x t r .jump ≤ max i (max j x)
+conjunction-far True c l i j x t r = let h = section-far True l j x t r in omega (arith, h)
+conjunction-far False true l i j x t r = let h = section-far False l j x t r in omega (arith, h)
+conjunction-far Unknown true l i j x t r = let h = section-far Unknown l j x t r in omega (arith, h)
+conjunction-far False false l i j x t r = omega arith
+conjunction-far Unknown false l i j x t r = omega arith
+
+match-far : (v : Truth) (m c l : Bool) (i j x : ℕ) (o t : Truth) (r : Decision) → matchDone v m c l i j x o t r .jump ≤ max i (max j x)
+match-far False m c l i j x o t r = conjunction-far (orOf o False) c l i j x t r
+match-far True true c l i j x o t r = conjunction-far (orOf o True) c l i j x t r
+match-far Unknown true c l i j x o t r = conjunction-far (orOf o Unknown) c l i j x t r
+match-far True false c l i j x o t r = omega arith
+match-far Unknown false c l i j x o t r = omega arith
+
+past-far : (b : Bool) (n : ℕ) (r : Decision) → past b n r .jump ≤ n
+past-far true n r = omega arith
+past-far false n r = omega arith
+
+-- a step leads no further than its entry says
+pub inside : (e : Entry) (g : Bags) (long : ℕ) (h : Head) (l m : Level) (f b : Frame) → h .at + suc (reach e) ≤ long
+    → h .at + suc (extra e + core g long h e l m f b .next .jump) ≤ long
+unfolding core
+inside (begin c) g long h l m f b w = w
+inside (match t k c s i j x) g long h l m f b w = let z = match-far (andOf (h .ands) (matchOf g t)) k c s i j x (h .ors) (h .sections) (h .reg) in omega (arith, w, z)
+inside further g long h l m f b w = w
+inside (opens op) g long h l m f b w = w
+inside (compare t n) g long h l m f b w = let z = go (h .nest) in omega (arith, w, z)
+  where
+    go : (k : ℕ) → tell (comparisonOf g t) n k l (h .reg) .next .jump ≤ n
+    go zero = omega arith
+    go (suc k) = past-far (settledBy (l .op) (told l (comparisonOf g t) .val)) n (h .reg)
+inside (close n) g long h l m f b w = let z = go (h .nest) in omega (arith, w, z)
+  where
+    go : (k : ℕ) → closed n k l m (h .reg) .next .jump ≤ n
+    go zero = omega arith
+    go (suc zero) = omega arith
+    go (suc (suc k)) = past-far (settledBy (m .op) (told m (l .val) .val)) n (h .reg)
+inside (rule e n) g long h l m f b w = let z = past-far (settled (f .alg) (absorb (f .alg) (f .acc) e (Rattle.programme.specs.Core.ruled e (h .reg)))) n Permit in omega (arith, w, z)
+inside (enter al) g long h l m f b w = w
+inside (applies n) g long h l m f b w = let z = go (b .acc) in omega (arith, w, z)
+  where
+    go : (a : Acc) → noted a b n (h .reg) .next .jump ≤ n
+    go (Ranked k) = omega arith
+    go Nobody = omega arith
+    go Pending = omega arith
+    go Two = omega arith
+    go (One d) = omega arith
+inside (conclude n) g long h l m f b w = let z = go (result (f .alg) (f .acc)) in omega (arith, w, z)
+  where
+    go : (d : Decision) → concluded d n (f .permits) (f .denies) .next .jump ≤ n
+    go Permit = omega arith
+    go Deny = omega arith
+    go NotApplicable = omega arith
+    go Indeterminate = omega arith
+inside (oblige e n) g long h l m f b w = w
+inside (leave n) g long h l m f b w = let z = past-far (settled (b .alg) (absorb (b .alg) (b .acc) Permits (h .reg))) n Permit in omega (arith, w, z)
+inside shift g long h l m f b w = go (both (is (h .reg) Deny) (ltb (h .permits) (h .denies)))
+  where
+    go : (x : Bool) → h .at + suc (0 + shifted x long h .next .jump) ≤ long
+    go true = omega (arith, w)
+    go false = omega (arith, w)
+inside finish g long h l m f b w = w
+
+-- what becomes of the obligations stays within the places
+Tame : Head → Placing → Type 0
+Tame h Rest = Unit
+Tame h (AddPermit n) = Unit
+Tame h (AddDeny n) = Unit
+Tame h (FallPermit k) = Unit
+Tame h (FallDeny k) = Unit
+Tame h (FallBoth k j) = Unit
+Tame h (Cut c) = c ≤ 1000
+Tame h (Down n) = h .permits + n ≤ h .denies
+
+tame-core : (e : Entry) (g : Bags) (long : ℕ) (h : Head) (l m : Level) (f b : Frame) → fits e ≡ true → Tame h (core g long h e l m f b .placing)
+unfolding core Tame
+tame-core (begin c) g long h l m f b w = leb-true c 1000 w
+tame-core (match t k c s i j x) g long h l m f b w = tt
+tame-core further g long h l m f b w = tt
+tame-core (opens op) g long h l m f b w = tt
+tame-core (compare t n) g long h l m f b w = go (h .nest)
+  where
+    go : (k : ℕ) → Tame h (tell (comparisonOf g t) n k l (h .reg) .placing)
+    go zero = tt
+    go (suc k) = tt
+tame-core (close n) g long h l m f b w = go (h .nest)
+  where
+    go : (k : ℕ) → Tame h (closed n k l m (h .reg) .placing)
+    go zero = tt
+    go (suc zero) = tt
+    go (suc (suc k)) = tt
+tame-core (rule e n) g long h l m f b w = tt
+tame-core (enter al) g long h l m f b w = tt
+tame-core (applies n) g long h l m f b w = go (b .acc)
+  where
+    go : (a : Acc) → Tame h (noted a b n (h .reg) .placing)
+    go (Ranked k) = tt
+    go Nobody = tt
+    go Pending = tt
+    go Two = tt
+    go (One d) = tt
+tame-core (conclude n) g long h l m f b w = go (result (f .alg) (f .acc))
+  where
+    go : (d : Decision) → Tame h (concluded d n (f .permits) (f .denies) .placing)
+    go Permit = tt
+    go Deny = tt
+    go NotApplicable = tt
+    go Indeterminate = tt
+tame-core (oblige e n) g long h l m f b w = go e (is (h .reg) (decisionOf e))
+  where
+    go : (e : Effect) (x : Bool) → Tame h (pushed e x n)
+    go e false = tt
+    go Permits true = tt
+    go Denies true = tt
+tame-core (leave n) g long h l m f b w = tt
+tame-core shift g long h l m f b w = go (is (h .reg) Deny) (ltb (h .permits) (h .denies)) refl
+  where
+    go : (y x : Bool) → ltb (h .permits) (h .denies) ≡ x → Tame h (shifted (both y x) long h .placing)
+    go true true z = let k = ltb-true (h .permits) (h .denies) z in omega (arith, k)
+    go true false z = tt
+    go false x z = tt
+tame-core finish g long h l m f b w = tt
+
+depth-range : (z : Changing Frame) (k : ℕ) → k ≤ 16 → heightAfter roomF z k ≤ 16
+depth-range keep k w = w
+depth-range (push x) k w = go (ltb (suc k) roomF) refl
+  where
+    go : (b : Bool) → ltb (suc k) roomF ≡ b → if b (suc k) k ≤ 16
+    go true e = let z = ltb-true (suc k) roomF e in omega (arith, z)
+    go false e = w
+depth-range (swap x) k w = w
+depth-range (below x) k w = w
+depth-range (back x) k w = omega (arith, w)
+
+nest-range : (z : Changing Level) (k : ℕ) → k ≤ 14 → heightAfter roomL z k ≤ 14
+nest-range keep k w = w
+nest-range (push x) k w = go (ltb (suc k) roomL) refl
+  where
+    go : (b : Bool) → ltb (suc k) roomL ≡ b → if b (suc k) k ≤ 14
+    go true e = let z = ltb-true (suc k) roomL e in omega (arith, z)
+    go false e = w
+nest-range (swap x) k w = w
+nest-range (below x) k w = w
+nest-range (back x) k w = omega (arith, w)
+
+permits-range : (h : Head) (z : Placing) → Tame h z → Ranged h → permitsAfter z (h .cut) (h .permits) ≤ 1000
+unfolding Tame
+permits-range h Rest w r = r .permits
+permits-range h (AddPermit n) w r = go (ltb (h .permits) (h .cut)) refl
+  where
+    go : (b : Bool) → ltb (h .permits) (h .cut) ≡ b → if b (suc (h .permits)) (h .permits) ≤ 1000
+    go true e = let z = ltb-true (h .permits) (h .cut) e in omega (arith, z, r .stacks)
+    go false e = r .permits
+permits-range h (AddDeny n) w r = r .permits
+permits-range h (FallPermit k) w r = omega (arith, r .permits)
+permits-range h (FallDeny k) w r = r .permits
+permits-range h (FallBoth k j) w r = omega (arith, r .permits)
+permits-range h (Cut c) w r = omega arith
+permits-range h (Down n) w r = omega (arith, w, r .stacks)
+
+stacks-range : (h : Head) (z : Placing) → Tame h z → Ranged h → cutAfter z (h .cut) + deniesAfter z (h .cut) 1000 (h .denies) ≤ 1000
+unfolding Tame
+stacks-range h Rest w r = r .stacks
+stacks-range h (AddPermit n) w r = r .stacks
+stacks-range h (AddDeny n) w r = go (ltb (h .cut + h .denies) 1000) refl
+  where
+    go : (b : Bool) → ltb (h .cut + h .denies) 1000 ≡ b → h .cut + if b (suc (h .denies)) (h .denies) ≤ 1000
+    go true e = let z = ltb-true (h .cut + h .denies) 1000 e in omega (arith, z)
+    go false e = r .stacks
+stacks-range h (FallPermit k) w r = r .stacks
+stacks-range h (FallDeny k) w r = omega (arith, r .stacks)
+stacks-range h (FallBoth k j) w r = omega (arith, r .stacks)
+stacks-range h (Cut c) w r = omega (arith, w)
+stacks-range h (Down n) w r = r .stacks
+
+both-parts : (a b : Bool) → both a b ≡ true → (a ≡ true) × (b ≡ true)
+both-parts true b e = (refl, e)
+both-parts false b e = absurd (let z : _≡_ {A = ℕ} 0 1 = ap (λ (x : Bool). if x 1 0) e in omega (arith, z))
+
+-- what a lawful entry is
+pub lawful-parts : (long at : ℕ) (e : Entry) → lawful long at e ≡ true → (fits e ≡ true) × (at + suc (reach e) ≤ long)
+unfolding lawful
+lawful-parts long at e w = let z = both-parts (fits e) (leb (at + suc (reach e)) long) w in (z .0, leb-true (at + suc (reach e)) long (z .1))
+
+-- after a lawful step the place is further on, inside, and the first number is in its range
+pub forward : (e : Entry) (g : Bags) (long : ℕ) (h : Head) (l m : Level) (f b : Frame) → long ≤ 8008 → Ranged h → lawful long (h .at) e ≡ true
+    → (h .at < headAfter h e (core g long h e l m f b) .at) × (headAfter h e (core g long h e l m f b) .at ≤ long) × Ranged (headAfter h e (core g long h e l m f b))
+unfolding headAfter
+forward e g long h l m f b s r w =
+    let z = lawful-parts long (h .at) e w in
+    let i = inside e g long h l m f b (z .1) in
+    let t = tame-core e g long h l m f b (z .0) in
+    (
+      omega arith,
+      i,
+      record {
+        at = omega (arith, i, s);
+        depth = depth-range (core g long h e l m f b .frames) (h .depth) (r .depth);
+        nest = nest-range (core g long h e l m f b .levels) (h .nest) (r .nest);
+        permits = permits-range h (core g long h e l m f b .placing) t r;
+        stacks = stacks-range h (core g long h e l m f b .placing) t r;
+      },
+    )
+
+-- so of a step that may be taken
+module _ (p : List ℕ) (g : Bags) (s : State) (long : length p ≤ 8008) (ok : allowed (s .head) ≡ true) (may : mayStep p s ≡ true) where
+  abbrev pub before : Head
+  before = unpackOf (s .head)
+
+  abbrev pub met : Entry
+  met = fetch p (before .at)
+
+  pub step-forward : (before .at < headAfter before met (seen p g s before met) .at) × (headAfter before met (seen p g s before met) .at ≤ length p)
+      × Ranged (headAfter before met (seen p g s before met))
+  unfolding seen mayStep
+  step-forward = forward met g (length p) before _ _ _ _ long (ranged (s .head) ok) may
+
+  pub still-allowed : allowed (stepOf p g s .head) ≡ true
+  unfolding stepOf after
+  still-allowed = allowed-pack (headAfter before met (seen p g s before met)) (step-forward .2)
+
+  pub head-after : unpackOf (stepOf p g s .head) ≡ headAfter before met (seen p g s before met)
+  unfolding stepOf after
+  head-after = unpack-pack (headAfter before met (seen p g s before met)) (held (headAfter before met (seen p g s before met)) (step-forward .2))
+
+  pub further-on : (before .at < unpackOf (stepOf p g s .head) .at) × (unpackOf (stepOf p g s .head) .at ≤ length p)
+  further-on = rw head-after (step-forward .0, step-forward .1)

@@ -1,0 +1,59 @@
+-- A text that is read is written again, in capitals: the round trip, said of what two calls leave in their outputs. Assumes nothing.
+use mathlib.Core.Path.{_≡_, sym, ap, _∙_}
+use mathlib.Core.List.{List, map}
+use Prim.Native.Nat.{ℕ, _≤_, zero-le}
+use native.Mathlib.Omega.{arith}
+use lib.ListN.{length, take}
+use lib.Seq.{take-at}
+use Rattle.record.specs.declared.Refusal.{Refusal}
+use Rattle.text.specs.Table.{tab}
+use Rattle.text.specs.Text.{book, readOf, writeOf, byteAt, textAt, outputAfter}
+use Rattle.text.specs.RoundTrip.{Bytes, upper}
+use Rattle.text.specs.declared.Filled.{Filled}
+use Rattle.text.specs.declared.Filled.the-variants.{Places, Refused}
+use Rattle.text.proofs.Laws.{length-tab}
+use Rattle.text.proofs.Lined.{judge-lined, Lined}
+use Rattle.text.proofs.Accepted.{WasRead, was-read, was-written}
+use Rattle.text.proofs.RoundTrip.{read-is-written}
+use Rattle.line.specs.Line.{refusalLine}
+use Rattle.rewrite.specs.Rewrite.{printed, printedBy}
+
+-- what a refusal prints
+pub printed-refusal : (s : List ℕ) (room : ℕ) (r : Refusal) {a : Filled} → room ≡ 16000 → a ≡ readOf book s room → a ≡ Refused r → printed s ≡ refusalLine r
+unfolding printed printedBy
+printed-refusal s room r e p q = ap (λ (x : Filled). printedBy x s) (ap (readOf book s) (sym e) ∙ sym p ∙ q)
+
+-- what was filled stands first in the output
+filled-first : (f : ℕ → ℕ) (out : List ℕ) (m : ℕ) {a : Filled} {later : List ℕ} → later ≡ outputAfter f a out → a ≡ Places m → take m later ≡ tab f m
+unfolding outputAfter
+filled-first f out m e p = rw (e, p) (take-at (tab f m) _ m (length-tab f m))
+
+pub read-fits : (s : List ℕ) (room m : ℕ) {a : Filled} → a ≡ readOf book s room → a ≡ Places m → m ≤ room
+read-fits s room m p q = was-read book s room m (sym p ∙ q) .fits
+
+pub write-fits : (r : List ℕ) (room m : ℕ) {a : Filled} → a ≡ writeOf book r room → a ≡ Places m → m ≤ room
+write-fits r room m p q = was-written book r room m (sym p ∙ q) .fits
+
+module _ (s records out : List ℕ) (m : ℕ) {a b : Filled} {later : List ℕ}
+    (bytes : Bytes s) (room : 33000 ≤ length out)
+    (read : a ≡ readOf book s (length records)) (left : later ≡ outputAfter (byteAt s) a records) (done : a ≡ Places m)
+    (write : b ≡ writeOf book (take m later) (length out)) where
+  again : (writeOf book (tab (byteAt s) m) (length out) ≡ Places (length s)) × (tab (textAt (tab (byteAt s) m)) (length s) ≡ map upper s)
+  again =
+      let v : WasRead book (length records) _ m = was-read book s (length records) m (sym read ∙ done) in
+      let l : Lined s 1000 0 (v .n) = judge-lined s 1000 0 (v .n) zero-le (v .judged) in
+      read-is-written book s (length records) (length out) m bytes (sym read ∙ done) (omega (arith, l .long, l .few))
+
+  written : b ≡ Places (length s)
+  written = write ∙ ap (λ (r : List ℕ). writeOf book r (length out)) (filled-first (byteAt s) records m left done) ∙ again .0
+
+  pub never-refused : (r : Refusal) → b ≡ Refused r → ⊥
+  never-refused r e = let z : _≡_ {A = ℕ} 0 1 = cc written in omega arith
+
+  pub printed-again : (n : ℕ) {last : List ℕ} → length records ≡ 16000 → last ≡ outputAfter (textAt (take m later)) b out → b ≡ Places n → take n last ≡ printed s
+  unfolding printed printedBy
+  printed-again n long e p =
+      let q : n ≡ length s = cc written in
+      filled-first (textAt (take m later)) out n e p
+      ∙ rw (filled-first (byteAt s) records m left done, q) (again .1)
+      ∙ sym (ap (λ (x : Filled). printedBy x s) (ap (readOf book s) (sym long) ∙ sym read ∙ done))
