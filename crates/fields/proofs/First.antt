@@ -95,6 +95,11 @@ module _ (f : ℕ → Bool) where
   unfolding countBelow
   count-more n = rw (add-one n)
 
+  pub count-le : (n : ℕ) → countBelow f n ≤ n
+  unfolding countBelow
+  count-le zero = omega arith
+  count-le (suc n) = by (f n) (λ t. rw t (omega (arith, count-le n))) (λ t. rw t (omega (arith, count-le n)))
+
   -- how the first that fails is found
   pub first-none : (i k : ℕ) → k ≡ 0 → firstFrom f i k ≡ i
   unfolding firstFrom

@@ -13,7 +13,7 @@ use Rattle.fields.specs.First.{allBelow, countBelow}
 use Rattle.fields.specs.Fields.{categoryOk, typeOf, typeAt, finite, valueOk, functionOk, zeros, plainOk, sectionOk, comparesOk, obligationOk, obligationsOf}
 use Rattle.fields.specs.Entries.{entryOk}
 use Rattle.fields.specs.declared.Sort.{Sort}
-use Rattle.fields.proofs.First.{all-same, all-split, count-more}
+use Rattle.fields.proofs.First.{all-same, all-split, count-more, count-le}
 
 both-false : (a b : Bool) → b ≡ false → both a b ≡ false
 both-false true b p = p
@@ -189,3 +189,7 @@ obligations-none b = refl
 pub obligations-more : (b : List ℕ) (i : ℕ) {m k d : ℕ} → m ≡ obligationsOf b i → k ≡ byteOf b i 0 → d ≡ if (eqb k 8) 1 0 → m + d ≡ obligationsOf b (i + 1)
 unfolding obligationsOf
 obligations-more b i em ek ed = rw (count-more (λ (j : ℕ). eqb (byteOf b j 0) 8) i, ← em, ← ek, ← ed)
+
+pub obligations-le : (b : List ℕ) (n : ℕ) → obligationsOf b n ≤ n
+unfolding obligationsOf
+obligations-le b n = count-le (λ (j : ℕ). eqb (byteOf b j 0) 8) n

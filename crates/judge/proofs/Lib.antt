@@ -2,6 +2,7 @@
 pub mod Laws
 pub mod Exactly
 pub mod ExactlyRequest
+pub mod Bounds
 pub mod Sound
 pub mod Unique
 mod Examples

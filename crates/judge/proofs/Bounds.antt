@@ -1,0 +1,46 @@
+-- How large the numbers of a judgement are, for those that pack them. Assumes nothing.
+use mathlib.Core.Path.{_≡_}
+use mathlib.Core.List.{List}
+use Prim.Native.Nat.{ℕ, _≤_, _<_}
+use native.Mathlib.Omega.{arith}
+use Rattle.record.specs.Bytes.{mostRecords, mostEntries}
+use Rattle.record.specs.declared.Refusal.{Refusal}
+use Rattle.fields.proofs.Laws.{obligations-le}
+use Rattle.judge.specs.Judge.{judgeOf}
+use Rattle.judge.specs.Request.{judgeRequestOf}
+use Rattle.judge.specs.Exactly as book
+use Rattle.judge.specs.ExactlyRequest as request
+use Rattle.judge.specs.declared.Judged.the-variants as of-book
+use Rattle.judge.specs.declared.JudgedRequest.the-variants as of-request
+use Rattle.judge.proofs.Exactly.{accepted-keeps, refused-breaks}
+use Rattle.judge.proofs.ExactlyRequest.{accepted-request-keeps, refused-request-breaks}
+
+-- a refusal of at most `most` lines
+pub record Small (r : Refusal) (most : ℕ) : Type 0 where
+  pub number : r .number < 256
+  pub part : r .part < 256
+  pub line : r .line ≤ most
+
+small : (b : List ℕ) (r : Refusal) → book.Breaks b r → Small r mostRecords
+small b r (book.empty er e) = rw er (record { number = omega arith; part = omega arith; line = omega arith })
+small b r (book.cut er e) = rw er (record { number = omega arith; part = omega arith; line = omega arith })
+small b r (book.many er e l) = rw er (record { number = omega arith; part = omega arith; line = omega arith })
+small b r (book.field n i er s w) = rw er (record { number = omega arith; part = omega arith; line = omega (arith, s .most, w .inside) })
+small b r (book.place n i er s k w) = rw er (record { number = omega arith; part = omega arith; line = omega (arith, s .most, w .inside) })
+
+pub refused-small : (b : List ℕ) (r : Refusal) → judgeOf b ≡ of-book.Refused r → Small r mostRecords
+refused-small b r e = small b r (refused-breaks b r e)
+
+pub accepted-small : (b : List ℕ) (n m : ℕ) → judgeOf b ≡ of-book.Accepted n m → (n ≤ mostRecords) × (m ≤ n)
+accepted-small b n m e = let w = accepted-keeps b n m e in (w .0 .sized .most, omega (arith, w .1, obligations-le b n))
+
+small-request : (q : List ℕ) (r : Refusal) → request.BreaksRequest q r → Small r mostEntries
+small-request q r (request.cut er e) = rw er (record { number = omega arith; part = omega arith; line = omega arith })
+small-request q r (request.many er e l) = rw er (record { number = omega arith; part = omega arith; line = omega arith })
+small-request q r (request.field n i er s w) = rw er (record { number = omega arith; part = omega arith; line = omega (arith, s .most, w .inside) })
+
+pub refused-request-small : (q : List ℕ) (r : Refusal) → judgeRequestOf q ≡ of-request.Refused r → Small r mostEntries
+refused-request-small q r e = small-request q r (refused-request-breaks q r e)
+
+pub accepted-request-small : (q : List ℕ) (n : ℕ) → judgeRequestOf q ≡ of-request.Accepted n → n ≤ mostEntries
+accepted-request-small q n e = accepted-request-keeps q n e .sized .most
