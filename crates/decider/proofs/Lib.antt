@@ -3,3 +3,4 @@ pub mod Kept
 pub mod Rooms
 pub mod Children
 pub mod Laws
+pub mod Whole

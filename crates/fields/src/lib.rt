@@ -1,10 +1,10 @@
 // The field rules of records and of a request's entries.
+use record::SIZE;
 use record::big2;
 use record::big4;
 use record::big8;
 use record::byte;
 use record::span;
-use record::SIZE;
 ghost use mathlib.Core.Path.{_≡_};
 ghost use Prim.Native.Nat.{_+_, _*_, _-_, _<_, _≤_};
 ghost use lib.Dec.{eqb};

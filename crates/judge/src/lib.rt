@@ -200,7 +200,15 @@ struct Broken {
 
 // The first of the records after `parent` and below `top` that breaks a place rule, and which; `top` and 0 where none does. They are the parent's
 // children, and what stands below them; `top` is its end, and `outer` the category of its own parent.
-fn walk(book: &[u8], parent: usize, top: usize, depth: usize, kind: usize, outer: usize, category: usize) -> Broken
+fn walk(
+    book: &[u8],
+    parent: usize,
+    top: usize,
+    depth: usize,
+    kind: usize,
+    outer: usize,
+    category: usize,
+) -> Broken
     requires { ⌜ (top * size ≤ length (now book)) × (parent < top) × (depth ≤ mostDepth) × Walk (now book) parent (parent + 1) top depth kind outer category 0 ⌝ }
     ensures { λ r. ⌜ Finds (now (book .entry)) (parent + 1) (top - (parent + 1)) (r .at) (r .rule) ⌝ }
 {

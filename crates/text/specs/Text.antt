@@ -32,10 +32,11 @@ missing k n = if (k .empty) false (eqb n 0)
 abbrev pub digits : ℕ
 digits = 2 * size
 
--- .. and one LF a record
+-- .. and one LF per record
 abbrev pub lf : ℕ
 lf = 10
 
+-- the bytes of a line
 abbrev pub lineLength : ℕ
 lineLength = digits + 1
 

@@ -1,6 +1,13 @@
+use borrow.Author.Tests.{not-true, not-false}
+use Rattle.meaning.specs.Reading.{bagsOf}
+use Rattle.record.specs.Forest.{forest}
+use Rattle.decider.specs.Inside.{nestOf}
+use Rattle.decider.proofs.Rooms.{deep-is, nest-kids, nest-rest, rooms}
+use Rattle.decider.proofs.Laws.{child-no, child-lost, child-yes, body-own, gather-rules, gather-walk, gather-nobody, gather-many, gather-one, picked-one, Sofar, walk-start, walk-skip, walk-turn, walk-stop, walk-end}
 use native.Mathlib.Omega.{arith}
 use borrow.Author.Needs.{needs}
-use Prim.Native.Nat.{ℕ, _<_}
+use Prim.Native.Nat.{ℕ, _+_, _-_, _*_, _≤_, _<_}
+use mathlib.Core.Path.{_≡_, refl, sym, _∙_}
 use borrow.Fn.Kinds.{In}
 use borrow.Fn.PlainCycle.{Measures, is, falls, and}
 use Rattle.decider.proofs.body.Reads as body
@@ -34,16 +41,16 @@ use Rattle.decider.proofs.+body+child+gather+walk.{statement}
 use Rattle.decider.proofs.+body+child+gather+walk.Tie.{close}
 
 abbrev μ-body : Measures 3 body-kinds.ps ℕ
-μ-body κs a = ?
+μ-body κs a = 4 * a .1 .1 .1 .0 + 1
 
 abbrev μ-child : Measures 3 child-kinds.ps ℕ
-μ-child κs a = ?
+μ-child κs a = 4 * a .1 .1 .1 .0 + 2
 
 abbrev μ-gather : Measures 3 gather-kinds.ps ℕ
-μ-gather κs a = ?
+μ-gather κs a = 4 * a .1 .1 .1 .0
 
 abbrev μ-walk : Measures 3 walk-kinds.ps ℕ
-μ-walk κs a = ?
+μ-walk κs a = 4 * a .1 .1 .1 .0 + 3
 
 abbrev body-at : ℕ → In 3 body-kinds.ps
 body-at t = and 3 body-kinds.ps (is 3 body-kinds.ps μ-body t) body.Pre
@@ -82,7 +89,7 @@ abbrev walk-calls : ℕ → walk-lts.Claims
 walk-calls t = (begin-reads.Asked, begin-reads.Learnt, span-in-reads.Asked, span-in-reads.Learnt, is-party-reads.Asked, is-party-reads.Learnt, child-below t, child.Post, outcome-reads.Asked, outcome-reads.Learnt, take-in-reads.Asked, take-in-reads.Learnt, stay-reads.Asked, stay-reads.Learnt, settle-reads.Asked, settle-reads.Learnt, settles-reads.Asked, settles-reads.Learnt)
 
 body-gather-requires : (t : ℕ) → body-lts.Need-gather-requires (body-calls t) (body-at t) body.Post
-body-gather-requires t c κs = search needs
+body-gather-requires t c κs = (omega arith, (c .before .before .before .before .pre .1 .0, c .before .before .before .before .pre .1 .1, omega (arith, c .before .before .before .before .pre .1 .2, rooms (c .before .before .before .before .args .book .now) (c .before .before .before .before .args .i + 1) (c .before .before .before .before .args .s - 1)), c .before .before .before .before .pre .1 .3))
 
 body-add-own : (t : ℕ) → body-lts.Need-add-own (body-calls t) (body-at t) body.Post
 body-add-own t c = search needs
@@ -91,13 +98,13 @@ body-sub-own : (t : ℕ) → body-lts.Need-sub-own (body-calls t) (body-at t) bo
 body-sub-own t c = search needs
 
 body-own-requires : (t : ℕ) → body-lts.Need-own-requires (body-calls t) (body-at t) body.Post
-body-own-requires t c κs = search needs
+body-own-requires t c κs = (search needs, omega (arith, c .before .before .before .gather .ensures .puts .within, c .before .before .before .gather .kept .1 .1 .1 .1 .1 .0, c .before .before .before .before .before .before .before .before .pre .1 .2, rooms (c .before .before .before .before .before .before .before .before .args .book .now) (c .before .before .before .before .before .before .before .before .args .i + 1) (c .before .before .before .before .before .before .before .before .args .s - 1)))
 
 body-same-length : (t : ℕ) → body-lts.Need-same-length (body-calls t) (body-at t) body.Post
 body-same-length t c = search needs
 
 body-returns : (t : ℕ) → body-lts.Need-returns (body-calls t) (body-at t) body.Post
-body-returns t c = search needs
+body-returns t c = body-own _ _ _ _ (c .before .before .before .before .before .before .gather .ensures) (c .before .before .own .ensures)
 
 child-add-target : (t : ℕ) → child-lts.Need-add-target (child-calls t) (child-at t) child.Post
 child-add-target t c = search needs
@@ -118,19 +125,19 @@ child-enum-told-3 : (t : ℕ) → child-lts.Need-enum-told-3 (child-calls t) (ch
 child-enum-told-3 t c = search needs
 
 child-body-requires : (t : ℕ) → child-lts.Need-body-requires (child-calls t) (child-at t) child.Post
-child-body-requires t c κs = search needs
+child-body-requires t c κs = (omega arith, (c .before .before .before .before .before .before .before .pre .1 .0, c .before .before .before .before .before .before .before .pre .1 .1, c .before .before .before .before .before .before .before .pre .1 .2, c .before .before .before .before .before .before .before .pre .1 .3))
 
 child-returns : (t : ℕ) → child-lts.Need-returns (child-calls t) (child-at t) child.Post
-child-returns t c = search needs
+child-returns t c = child-no _ _ _ _ (c .before .before .target .ensures) _ _ _ (c .enum-told .given .1)
 
 child-returns-2 : (t : ℕ) → child-lts.Need-returns-2 (child-calls t) (child-at t) child.Post
-child-returns-2 t c = search needs
+child-returns-2 t c = child-lost _ _ _ _ (c .before .before .target .ensures) _ _ _ (c .enum-told2 .given .1)
 
 child-same-length : (t : ℕ) → child-lts.Need-same-length (child-calls t) (child-at t) child.Post
 child-same-length t c = search needs
 
 child-returns-3 : (t : ℕ) → child-lts.Need-returns-3 (child-calls t) (child-at t) child.Post
-child-returns-3 t c = search needs
+child-returns-3 t c = child-yes _ _ _ _ (c .before .before .before .before .before .before .target .ensures) (c .before .before .before .before .enum-told3 .given .1) (c .before .before .body .ensures)
 
 gather-byte-requires : (t : ℕ) → gather-lts.Need-byte-requires (gather-calls t) (gather-at t) gather.Post
 gather-byte-requires t c κs = search needs
@@ -148,7 +155,7 @@ gather-rules-requires : (t : ℕ) → gather-lts.Need-rules-requires (gather-cal
 gather-rules-requires t c κs = search needs
 
 gather-returns : (t : ℕ) → gather-lts.Need-returns (gather-calls t) (gather-at t) gather.Post
-gather-returns t c = search needs
+gather-returns t c = gather-rules _ _ _ _ (c .before .before .before .byte .ensures .0) (c .before .before .byte2 .ensures .0) _ _ _ (c .before .if1 .taken) (c .rules .ensures)
 
 gather-over-policies-requires : (t : ℕ) → gather-lts.Need-over-policies-requires (gather-calls t) (gather-at t) gather.Post
 gather-over-policies-requires t c κs = search needs
@@ -175,22 +182,22 @@ gather-enum-known-p : (t : ℕ) → gather-lts.Need-enum-known-p (gather-calls t
 gather-enum-known-p t c = search needs
 
 gather-sub-body : (t : ℕ) → gather-lts.Need-sub-body (gather-calls t) (gather-at t) gather.Post
-gather-sub-body t c = search needs
+gather-sub-body t c = let w = picked-one _ _ _ _ (c .before .before .before .choose .ensures) (c .before .p .given .1) in omega (arith, w .applies .nest, c .before .before .before .before .before .before .before .before .before .before .before .before .before .pre .1 .3)
 
 gather-body-requires : (t : ℕ) → gather-lts.Need-body-requires (gather-calls t) (gather-at t) gather.Post
-gather-body-requires t c κs = search needs
+gather-body-requires t c κs = let w = picked-one _ _ _ _ (c .before .before .before .before .choose .ensures) (c .before .before .p .given .1) in (omega (arith, w .applies .fits, c .before .before .before .before .before .before .before .before .before .before .before .before .before .before .pre .1 .0), (w .applies .there, omega (arith, w .applies .ends, c .before .before .before .before .before .before .before .before .before .before .before .before .before .before .pre .1 .0, c .before .before .before .before .before .before .before .before .before .before .before .before .before .before .pre .1 .1), omega (arith, w .applies .room, c .before .before .before .before .before .before .before .before .before .before .before .before .before .before .pre .1 .2), omega (arith, w .applies .nest, c .before .before .before .before .before .before .before .before .before .before .before .before .before .before .pre .1 .3)))
 
 gather-returns-2 : (t : ℕ) → gather-lts.Need-returns-2 (gather-calls t) (gather-at t) gather.Post
-gather-returns-2 t c = search needs
+gather-returns-2 t c = gather-nobody _ _ _ _ (c .before .before .before .before .before .before .before .before .byte .ensures .0) (c .before .before .before .before .before .before .before .byte2 .ensures .0) (c .before .before .before .before .before .before .if1 .left) (c .before .before .before .before .before .over-policies .ensures) (c .before .before .before .before .is-only .ensures) (c .before .before .before .if2 .taken) _ _ _ (c .before .before .choose .ensures) (c .enum-told .given .1)
 
 gather-returns-3 : (t : ℕ) → gather-lts.Need-returns-3 (gather-calls t) (gather-at t) gather.Post
-gather-returns-3 t c = search needs
+gather-returns-3 t c = gather-many _ _ _ _ (c .before .before .before .before .before .before .before .before .byte .ensures .0) (c .before .before .before .before .before .before .before .byte2 .ensures .0) (c .before .before .before .before .before .before .if1 .left) (c .before .before .before .before .before .over-policies .ensures) (c .before .before .before .before .is-only .ensures) (c .before .before .before .if2 .taken) _ _ _ (c .before .before .choose .ensures) (c .enum-told2 .given .1)
 
 gather-same-length : (t : ℕ) → gather-lts.Need-same-length (gather-calls t) (gather-at t) gather.Post
 gather-same-length t c = search needs
 
 gather-returns-4 : (t : ℕ) → gather-lts.Need-returns-4 (gather-calls t) (gather-at t) gather.Post
-gather-returns-4 t c = search needs
+gather-returns-4 t c = let w = picked-one _ _ _ _ (c .before .before .before .before .before .before .before .choose .ensures) (c .before .before .before .before .before .p .given .1) in gather-one _ _ _ _ (c .before .before .before .before .before .before .before .before .before .before .before .before .before .byte .ensures .0) (c .before .before .before .before .before .before .before .before .before .before .before .before .byte2 .ensures .0) (c .before .before .before .before .before .before .before .before .before .before .before .if1 .left) (c .before .before .before .before .before .before .before .before .before .before .over-policies .ensures) (c .before .before .before .before .before .before .before .before .before .is-only .ensures) (c .before .before .before .before .before .before .before .before .if2 .taken) w (c .before .before .body .ensures)
 
 gather-add-walk : (t : ℕ) → gather-lts.Need-add-walk (gather-calls t) (gather-at t) gather.Post
 gather-add-walk t c = search needs
@@ -199,25 +206,25 @@ gather-sub-walk : (t : ℕ) → gather-lts.Need-sub-walk (gather-calls t) (gathe
 gather-sub-walk t c = search needs
 
 gather-walk-requires : (t : ℕ) → gather-lts.Need-walk-requires (gather-calls t) (gather-at t) gather.Post
-gather-walk-requires t c κs = search needs
+gather-walk-requires t c κs = (search needs, (search needs, c .before .before .before .before .before .before .before .before .before .before .pre .1 .2, c .before .before .before .before .before .before .before .before .before .before .pre .1 .3, sym (c .before .before .is-only .ensures) ∙ c .before .if2 .left))
 
 gather-same-length-2 : (t : ℕ) → gather-lts.Need-same-length-2 (gather-calls t) (gather-at t) gather.Post
 gather-same-length-2 t c = search needs
 
 gather-returns-5 : (t : ℕ) → gather-lts.Need-returns-5 (gather-calls t) (gather-at t) gather.Post
-gather-returns-5 t c = search needs
+gather-returns-5 t c = gather-walk _ _ _ _ (c .before .before .before .before .before .before .before .before .before .byte .ensures .0) (c .before .before .before .before .before .before .before .before .byte2 .ensures .0) (c .before .before .before .before .before .before .before .if1 .left) (c .before .before .before .before .before .before .over-policies .ensures) (c .before .before .walk .ensures)
 
 abbrev walk-Inv-loop : walk-lts.InvT-loop
-walk-Inv-loop book request from count a depth out₀ n i₀ left₀ acc₀ m₀ out i left acc m = ?
+walk-Inv-loop book request from count a depth out₀ n i₀ left₀ acc₀ m₀ out i left acc m = (i + left ≡ from + count) × (left ≤ count) × Sofar book (bagsOf request) a out₀ n from count i left acc out m × (nestOf (forest book i left) ≤ depth)
 
 abbrev walk-μ-loop : walk-lts.MeasureT-loop
-walk-μ-loop book request from count a depth out₀ n i₀ left₀ acc₀ m₀ out i left acc m = ?
+walk-μ-loop book request from count a depth out₀ n i₀ left₀ acc₀ m₀ out i left acc m = left
 
 walk-begin-requires : (t : ℕ) → walk-lts.Need-begin-requires (walk-calls t) (walk-at t) walk.Post walk-Inv-loop walk-μ-loop
 walk-begin-requires t c κs = search needs
 
 walk-loop-holds : (t : ℕ) → walk-lts.Need-loop-holds (walk-calls t) (walk-at t) walk.Post walk-Inv-loop walk-μ-loop
-walk-loop-holds t c = search needs
+walk-loop-holds t c = (refl, omega arith, walk-start _ _ _ _ _ _ _ (c .before .before .before .before .pre .1 .3) (c .begin .ensures), c .before .before .before .before .pre .1 .2)
 
 walk-span-in-requires : (t : ℕ) → walk-lts.Need-span-in-requires (walk-calls t) (walk-at t) walk.Post walk-Inv-loop walk-μ-loop
 walk-span-in-requires t c κs = search needs
@@ -235,16 +242,16 @@ walk-loop-less : (t : ℕ) → walk-lts.Need-loop-less (walk-calls t) (walk-at t
 walk-loop-less t c = search needs
 
 walk-loop-again : (t : ℕ) → walk-lts.Need-loop-again (walk-calls t) (walk-at t) walk.Post walk-Inv-loop walk-μ-loop
-walk-loop-again t c = search needs
+walk-loop-again t c = (omega arith, omega arith, walk-skip (c .before .before .before .before .before .before .before .before .before .pre .1 .3) (c .before .before .before .before .loop .inv .2) (c .before .before .before .loop-test .taken) (c .before .before .span-in .ensures .0) (c .before .is-party .ensures) (not-true _ (c .if1 .taken)), omega (arith, c .before .before .before .before .loop .inv .3, nest-rest _ _ _ (c .before .before .before .loop-test .taken) (c .before .before .span-in .ensures .0)))
 
 walk-add-next : (t : ℕ) → walk-lts.Need-add-next (walk-calls t) (walk-at t) walk.Post walk-Inv-loop walk-μ-loop
 walk-add-next t c = search needs
 
 walk-sub-child : (t : ℕ) → walk-lts.Need-sub-child (walk-calls t) (walk-at t) walk.Post walk-Inv-loop walk-μ-loop
-walk-sub-child t c = search needs
+walk-sub-child t c = omega (arith, c .before .before .before .before .loop .inv .3, nest-kids _ _ _ (c .before .before .before .loop-test .taken) (c .before .before .span-in .ensures .0))
 
 walk-child-requires : (t : ℕ) → walk-lts.Need-child-requires (walk-calls t) (walk-at t) walk.Post walk-Inv-loop walk-μ-loop
-walk-child-requires t c κs = search needs
+walk-child-requires t c κs = (search needs, (search needs, search needs, omega (arith, c .before .before .before .before .before .loop .inv .2 .room, c .before .before .before .before .before .loop .inv .2 .kept, c .before .before .before .before .before .before .before .before .before .before .pre .1 .1, deep-is _ _ _ (c .before .before .before .before .loop-test .taken) (c .before .before .before .span-in .ensures .0)), omega (arith, c .before .before .before .before .before .loop .inv .3, nest-kids _ _ _ (c .before .before .before .before .loop-test .taken) (c .before .before .before .span-in .ensures .0))))
 
 walk-outcome-requires : (t : ℕ) → walk-lts.Need-outcome-requires (walk-calls t) (walk-at t) walk.Post walk-Inv-loop walk-μ-loop
 walk-outcome-requires t c κs = search needs
@@ -262,16 +269,16 @@ walk-stay-requires-2 : (t : ℕ) → walk-lts.Need-stay-requires-2 (walk-calls t
 walk-stay-requires-2 t c κs = search needs
 
 walk-settle-requires : (t : ℕ) → walk-lts.Need-settle-requires (walk-calls t) (walk-at t) walk.Post walk-Inv-loop walk-μ-loop
-walk-settle-requires t c κs = search needs
+walk-settle-requires t c κs = (omega (arith, c .before .before .before .before .before .before .before .before .before .before .before .before .before .before .loop .inv .2 .holds .count), omega (arith, c .before .before .before .before .before .before .before .before .child .ensures .puts .holds .count), omega (arith, c .before .before .before .before .before .before .before .before .child .ensures .puts .within, c .before .before .before .before .before .before .before .before .before .before .before .before .before .before .loop .inv .2 .room, c .before .before .before .before .before .before .before .before .before .before .before .before .before .before .loop .inv .2 .kept, c .before .before .before .before .before .before .before .before .child .kept .1 .1 .1 .1 .1 .0, c .before .before .before .before .before .before .before .before .before .before .before .before .before .before .before .before .before .before .before .pre .1 .1, deep-is _ _ _ (c .before .before .before .before .before .before .before .before .before .before .before .before .before .loop-test .taken) (c .before .before .before .before .before .before .before .before .before .before .before .before .span-in .ensures .0)))
 
 walk-settles-requires : (t : ℕ) → walk-lts.Need-settles-requires (walk-calls t) (walk-at t) walk.Post walk-Inv-loop walk-μ-loop
 walk-settles-requires t c κs = search needs
 
 walk-same-length : (t : ℕ) → walk-lts.Need-same-length (walk-calls t) (walk-at t) walk.Post walk-Inv-loop walk-μ-loop
-walk-same-length t c = search needs
+walk-same-length t c = c .before .before .before .before .settle .kept .0 ∙ c .before .before .before .before .before .before .before .before .before .before .before .before .before .child .kept .1 .1 .1 .1 .1 .0 ∙ c .before .before .before .before .before .before .before .before .before .before .before .before .before .before .before .before .before .before .before .loop .inv .2 .kept
 
 walk-returns : (t : ℕ) → walk-lts.Need-returns (walk-calls t) (walk-at t) walk.Post walk-Inv-loop walk-μ-loop
-walk-returns t c = search needs
+walk-returns t c = walk-stop (c .before .before .before .before .before .before .before .before .before .before .before .before .before .before .before .before .before .before .before .before .before .before .before .before .pre .1 .3) (c .before .before .before .before .before .before .before .before .before .before .before .before .before .before .before .before .before .before .before .loop .inv .2) (c .before .before .before .before .before .before .before .before .before .before .before .before .before .before .before .before .before .before .loop-test .taken) (c .before .before .before .before .before .before .before .before .before .before .before .before .before .before .before .before .before .span-in .ensures .0) (c .before .before .before .before .before .before .before .before .before .before .before .before .before .before .before .before .is-party .ensures) (not-false _ (c .before .before .before .before .before .before .before .before .before .before .before .before .before .before .before .if1 .left)) (c .before .before .before .before .before .before .before .before .before .before .before .before .before .child .ensures) (c .before .before .before .before .before .before .before .before .before .before .before .before .before .child .kept .1 .1 .1 .1 .1 .0) (c .before .before .before .before .before .before .before .before .before .before .outcome .ensures) (c .before .before .before .before .before .before .before .before .before .take-in .ensures) (c .before .before .before .before .before .before .before .before .outcome2 .ensures) (c .before .before .before .before .before .before .stay .ensures) (c .before .before .before .before .before .stay2 .ensures) (c .before .settles .ensures) (c .before .before .before .before .settle .ensures .0) (c .before .before .before .before .settle .ensures .1) (omega (arith, c .before .before .before .before .before .before .before .before .before .before .before .before .before .before .before .before .before .before .before .before .before .before .before .before .pre .1 .1)) (omega (arith, c .before .before .before .before .before .before .before .before .before .before .before .before .before .before .before .before .before .before .before .loop .inv .2 .room, c .before .before .before .before .before .before .before .before .before .before .before .before .before .before .before .before .before .before .before .loop .inv .2 .kept, c .before .before .before .before .before .before .before .before .before .before .before .before .before .before .before .before .before .before .before .before .before .before .before .before .pre .1 .1)) (c .if2 .taken)
 
 walk-sub-left-2 : (t : ℕ) → walk-lts.Need-sub-left-2 (walk-calls t) (walk-at t) walk.Post walk-Inv-loop walk-μ-loop
 walk-sub-left-2 t c = search needs
@@ -280,16 +287,16 @@ walk-loop-less-2 : (t : ℕ) → walk-lts.Need-loop-less-2 (walk-calls t) (walk-
 walk-loop-less-2 t c = search needs
 
 walk-loop-again-2 : (t : ℕ) → walk-lts.Need-loop-again-2 (walk-calls t) (walk-at t) walk.Post walk-Inv-loop walk-μ-loop
-walk-loop-again-2 t c = search needs
+walk-loop-again-2 t c = (omega (arith, c .before .before .before .before .before .before .before .before .before .before .before .before .before .before .before .before .before .before .before .loop .inv .0, c .before .before .before .before .before .before .before .before .before .before .before .before .before .before .before .before .before .span-in .ensures .1 .1), omega (arith, c .before .before .before .before .before .before .before .before .before .before .before .before .before .before .before .before .before .before .before .loop .inv .1), walk-turn (c .before .before .before .before .before .before .before .before .before .before .before .before .before .before .before .before .before .before .before .before .before .before .before .before .pre .1 .3) (c .before .before .before .before .before .before .before .before .before .before .before .before .before .before .before .before .before .before .before .loop .inv .2) (c .before .before .before .before .before .before .before .before .before .before .before .before .before .before .before .before .before .before .loop-test .taken) (c .before .before .before .before .before .before .before .before .before .before .before .before .before .before .before .before .before .span-in .ensures .0) (c .before .before .before .before .before .before .before .before .before .before .before .before .before .before .before .before .is-party .ensures) (not-false _ (c .before .before .before .before .before .before .before .before .before .before .before .before .before .before .before .if1 .left)) (c .before .before .before .before .before .before .before .before .before .before .before .before .before .child .ensures) (c .before .before .before .before .before .before .before .before .before .before .before .before .before .child .kept .1 .1 .1 .1 .1 .0) (c .before .before .before .before .before .before .before .before .before .before .outcome .ensures) (c .before .before .before .before .before .before .before .before .before .take-in .ensures) (c .before .before .before .before .before .before .before .before .outcome2 .ensures) (c .before .before .before .before .before .before .stay .ensures) (c .before .before .before .before .before .stay2 .ensures) (c .before .settles .ensures) (c .before .before .before .before .settle .ensures .0) (c .before .before .before .before .settle .ensures .1) (omega (arith, c .before .before .before .before .before .before .before .before .before .before .before .before .before .before .before .before .before .before .before .before .before .before .before .before .pre .1 .1)) (omega (arith, c .before .before .before .before .before .before .before .before .before .before .before .before .before .before .before .before .before .before .before .loop .inv .2 .room, c .before .before .before .before .before .before .before .before .before .before .before .before .before .before .before .before .before .before .before .loop .inv .2 .kept, c .before .before .before .before .before .before .before .before .before .before .before .before .before .before .before .before .before .before .before .before .before .before .before .before .pre .1 .1)) (c .before .before .before .before .settle .kept .0) (c .if2 .left), omega (arith, c .before .before .before .before .before .before .before .before .before .before .before .before .before .before .before .before .before .before .before .loop .inv .3, nest-rest _ _ _ (c .before .before .before .before .before .before .before .before .before .before .before .before .before .before .before .before .before .before .loop-test .taken) (c .before .before .before .before .before .before .before .before .before .before .before .before .before .before .before .before .before .span-in .ensures .0)))
 
 walk-outcome-requires-3 : (t : ℕ) → walk-lts.Need-outcome-requires-3 (walk-calls t) (walk-at t) walk.Post walk-Inv-loop walk-μ-loop
 walk-outcome-requires-3 t c κs = search needs
 
 walk-same-length-2 : (t : ℕ) → walk-lts.Need-same-length-2 (walk-calls t) (walk-at t) walk.Post walk-Inv-loop walk-μ-loop
-walk-same-length-2 t c = search needs
+walk-same-length-2 t c = c .before .before .loop .inv .2 .kept
 
 walk-returns-2 : (t : ℕ) → walk-lts.Need-returns-2 (walk-calls t) (walk-at t) walk.Post walk-Inv-loop walk-μ-loop
-walk-returns-2 t c = search needs
+walk-returns-2 t c = walk-end (c .before .before .before .before .before .before .before .pre .1 .3) (c .before .before .loop .inv .2) (c .before .loop-test .left) (c .outcome3 .ensures)
 
 pub +body+child+gather+walk-spec : {M : Type 1} → statement M
 +body+child+gather+walk-spec = close μ-body μ-child μ-gather μ-walk (λ t. body-lts.spec (body-calls t)
