@@ -45,8 +45,9 @@ pub answered : (b q : List ℕ) (n : ℕ) {l o f : List ℕ} {room m : ℕ} {d :
     → length o ≡ length l → f ≡ take m o ++ replicate (length o - m) 0 → Answered b q l f d m
 unfolding dutiesOf decides obliges childAt
 answered b q n e w k c =
-    rw (book-is b n e)
-    (record { says = w .says; puts = omega (arith, w .puts .holds .count); leaves = cleared (w .puts .holds) k c })
+    let v : decides (bagsOf q) (bookOf b) ≡ said (childAt b (bagsOf q) 0 n) = rw (book-is b n e) in
+    let x : dutiesOf b q ≡ owed (childAt b (bagsOf q) 0 n .target) (childAt b (bagsOf q) 0 n .duties) = rw (book-is b n e) in
+    record { says = rw v (w .says); puts = rw x (omega (arith, w .puts .holds .count)); leaves = rw x (cleared (w .puts .holds) k c) }
 
 -- judged in order
 module _ (b q l : List ℕ) where

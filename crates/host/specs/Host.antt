@@ -1,0 +1,26 @@
+-- What the C host gets: one number, and obligations as byte pairs. Document 01, "The C host". Assumes nothing.
+use Prim.Native.Nat.{ℕ, _+_, _*_, _/_, _%_}
+use mathlib.Core.List.{List, [], _∷_}
+use lib.ListN.{length}
+use Rattle.meaning.specs.Numbers.{numberOf}
+use Rattle.decider.specs.Outcome.{dutiesOf, outcomeOf, filled}
+use Rattle.decider.specs.declared.Outcome.{Outcome}
+use Rattle.decider.specs.declared.Outcome.the-variants.{Decided, Refused}
+
+-- decision + 256 x count, or 255 + 256 x number + 65,536 x line + 4,294,967,296 x part
+abbrev pub hostNumber : Outcome → ℕ
+hostNumber (Decided d n) = numberOf d + 256 * n
+hostNumber (Refused r) = 255 + 256 * (r .number) + 65536 * (r .line) + 4294967296 * (r .part)
+
+-- obligations as byte pairs, big-endian
+unfoldable pub pairsOf : List ℕ → List ℕ
+pairsOf [] = []
+pairsOf (x ∷ xs) = x / 256 ∷ x % 256 ∷ pairsOf xs
+
+-- two bytes are room for one obligation
+unfoldable pub hostOutcome : List ℕ → List ℕ → List ℕ → Outcome
+hostOutcome b q l = outcomeOf b q (length l / 2)
+
+-- the obligations first, and zero in every other byte; a refusal leaves all as it was
+unfoldable pub hostOut : List ℕ → List ℕ → List ℕ → List ℕ
+hostOut b q l = filled (hostOutcome b q l) (pairsOf (dutiesOf b q)) l

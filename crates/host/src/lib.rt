@@ -1,0 +1,89 @@
+// The call for a C host.
+use decider::Outcome;
+use meaning::Decision;
+use record::Refusal;
+ghost use mathlib.Core.Path.{_≡_};
+ghost use mathlib.Core.List.{_++_};
+ghost use Prim.Native.Nat.{_+_, _*_, _-_, _/_, _≤_, min};
+ghost use lib.ListN.{length, take, drop, replicate};
+ghost use Rattle.decider.specs.declared.Outcome.the-variants.{Decided, Refused};
+ghost use Rattle.host.specs.Host.{hostNumber, pairsOf, hostOutcome, hostOut};
+
+// No book has more obligation records.
+const MOST: usize = 1000;
+
+fn least(a: usize, b: usize) -> usize
+    ensures { λ r. ⌜ r ≡ min a b ⌝ }
+{
+    if a < b {
+        return a;
+    }
+    b
+}
+
+// Puts the first n places as byte pairs.
+fn put_pairs(places: &[u16], n: usize, out: &mut [u8])
+    requires { ⌜ (n ≤ length (now places)) × (n * 2 ≤ length (now out)) ⌝ }
+    ensures { λ _. ⌜ now (out .exit) ≡ pairsOf (take n (now (places .entry))) ++ drop (n * 2) (now (out .entry)) ⌝ }
+{
+    let mut k: usize = 0;
+    while k < n {
+        let x = places[k];
+        out[k * 2] = (x / 256) as u8;
+        out[k * 2 + 1] = (x % 256) as u8;
+        k += 1;
+    }
+}
+
+// Puts zero into every byte from n on.
+fn clear(out: &mut [u8], n: usize)
+    requires { ⌜ n ≤ length (now out) ⌝ }
+    ensures { λ _. ⌜ now (out .exit) ≡ take n (now (out .entry)) ++ replicate (length (now (out .entry)) - n) 0 ⌝ }
+{
+    let mut k = n;
+    while k < out.len() {
+        out[k] = 0;
+        k += 1;
+    }
+}
+
+fn decided(d: Decision, n: usize) -> u64
+    requires { ⌜ n ≤ 1000 ⌝ }
+    ensures { λ r. ⌜ r ≡ hostNumber (Decided d n) ⌝ }
+{
+    meaning::number(d) as u64 + 256 * n as u64
+}
+
+fn refused(r: Refusal) -> u64
+    requires { ⌜ r .line ≤ 1000 ⌝ }
+    ensures { λ x. ⌜ x ≡ hostNumber (Refused r) ⌝ }
+{
+    255 + 256 * r.number as u64 + 65536 * r.line as u64 + 4294967296 * r.part as u64
+}
+
+// Decides in these places: one for each pair of bytes of out, or as many as any book needs.
+fn decide_in(book: &[u8], request: &[u8], places: &mut [u16], out: &mut [u8]) -> u64
+    requires { ⌜ length (now places) ≡ min (length (now out) / 2) 1000 ⌝ }
+    ensures { λ r. ⌜ (r ≡ hostNumber (hostOutcome (now (book .entry)) (now (request .entry)) (now (out .entry))))
+        × (now (out .exit) ≡ hostOut (now (book .entry)) (now (request .entry)) (now (out .entry))) ⌝ }
+{
+    match decider::decide(book, request, places) {
+        Outcome::Refused(r) => refused(r),
+        Outcome::Decided(d, n) => {
+            put_pairs(places, n, out);
+            clear(out, n * 2);
+            decided(d, n)
+        }
+    }
+}
+
+// Judges and decides: document 01's number, and the obligations in out.
+#[no_mangle]
+pub extern "C" fn bachumoi_decide(book: &[u8], request: &[u8], out: &mut [u8]) -> u64
+    ensures { λ r. ⌜ (r ≡ hostNumber (hostOutcome (now (book .entry)) (now (request .entry)) (now (out .entry))))
+        × (now (out .exit) ≡ hostOut (now (book .entry)) (now (request .entry)) (now (out .entry))) ⌝ }
+{
+    let mut places = [0u16; MOST];
+    let room = least(out.len() / 2, MOST);
+    decide_in(book, request, &mut places[..room], out)
+}
