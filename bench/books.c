@@ -204,3 +204,129 @@ size_t deep_book(uint8_t *book, unsigned algorithm, unsigned sets, enum filling 
     }
     return (size_t)(pen.at - book);
 }
+
+/* ---- Books by chance --------------------------------------------------------------------------------------- */
+
+unsigned roll(struct dice *dice, unsigned below)
+{
+    dice->seed ^= dice->seed << 13;
+    dice->seed ^= dice->seed >> 7;
+    dice->seed ^= dice->seed << 17;
+    return (unsigned)((dice->seed * 0x2545F4914F6CDD1D >> 33) % below);
+}
+
+/* A book in the making: the next record, and where the room for it ends. */
+struct making {
+    struct pen pen;
+    uint8_t *end;
+    struct dice *dice;
+};
+
+static size_t room(const struct making *m)
+{
+    return (size_t)(m->end - m->pen.at) / RECORD;
+}
+
+/* The record that head is ends where the next one will stand. */
+static void close_span(const struct making *m, uint8_t *head)
+{
+    put_big(head + 2, 2, (size_t)(m->pen.at - head) / RECORD);
+}
+
+static uint64_t random_value(struct dice *dice, unsigned type)
+{
+    static const double doubles[4] = { 0.0, 1.5, -0.0, -2.0 };
+    unsigned n = roll(dice, 4);
+    return type == 1 ? (uint64_t)n - 1 : type == 2 ? name(channels[n]) : bits(doubles[n]);
+}
+
+/* A match, or a comparison where base is 10. */
+static void random_test(struct making *m, unsigned kind, unsigned base, unsigned category)
+{
+    unsigned type = 1 + roll(m->dice, 3), function = type == 2 ? 1 : 1 + roll(m->dice, 5);
+    unsigned must = roll(m->dice, 4) == 0 ? 128 : 0;
+    put(&m->pen, kind, base + function, 1, category, type + must, roll(m->dice, 2), random_value(m->dice, type));
+}
+
+static void random_section(struct making *m, unsigned category)
+{
+    uint8_t *section = m->pen.at;
+    put(&m->pen, 4, 0, 0, category, 0, 0, 0);
+    do {
+        uint8_t *conjunction = m->pen.at;
+        put(&m->pen, 5, 0, 0, 0, 0, 0, 0);
+        do
+            random_test(m, 6, 0, category);
+        while (room(m) > 0 && roll(m->dice, 3) == 0);
+        close_span(m, conjunction);
+    } while (room(m) > 1 && roll(m->dice, 3) == 0);
+    close_span(m, section);
+}
+
+/* The target of a record at this depth. */
+static void random_target(struct making *m, unsigned depth)
+{
+    for (unsigned category = 1; category <= 4 && depth + 3 <= DEPTH; category++)
+        if (room(m) >= 3 && roll(m->dice, 4) == 0)
+            random_section(m, category);
+}
+
+static void random_condition(struct making *m, unsigned depth)
+{
+    uint8_t *head = m->pen.at;
+    unsigned choice = 1 + roll(m->dice, 8);
+    if (choice > 3 || depth == DEPTH || room(m) < 2) {
+        random_test(m, 7, 10, 1 + roll(m->dice, 4));
+        return;
+    }
+    put(&m->pen, 7, choice, 0, 0, 0, 0, 0);
+    if (choice == 3)
+        random_condition(m, depth + 1);
+    while (choice != 3 && room(m) > 0 && roll(m->dice, 3) != 0)
+        random_condition(m, depth + 1);
+    close_span(m, head);
+}
+
+static void random_rule(struct making *m, unsigned depth)
+{
+    uint8_t *head = m->pen.at;
+    put(&m->pen, 3, 1 + roll(m->dice, 2), 0, 0, 0, 0, 0);
+    random_target(m, depth);
+    if (depth < DEPTH && room(m) > 0 && roll(m->dice, 3) != 0)
+        random_condition(m, depth + 1);
+    close_span(m, head);
+}
+
+/* A policy or set at this depth; one that fills takes all the room but for its obligations. */
+static void random_tree(struct making *m, unsigned depth, int fills)
+{
+    uint8_t *head = m->pen.at;
+    unsigned kind = fills || roll(m->dice, 2) == 0 ? 1 : 2, obligations = roll(m->dice, 3);
+    put(&m->pen, kind, 1 + roll(m->dice, kind == 1 ? 4 : 3), 0, 0, 0, 0, 0);
+    random_target(m, depth);
+    while (depth < DEPTH && room(m) > obligations && (fills || roll(m->dice, 4) != 0))
+        if (kind == 1)
+            random_tree(m, depth + 1, 0);
+        else
+            random_rule(m, depth + 1);
+    for (; obligations > 0 && room(m) > 0; obligations--)
+        put(&m->pen, 8, 1 + roll(m->dice, 2), 1, 0, 0, roll(m->dice, 65536), 0);
+    close_span(m, head);
+}
+
+size_t random_book(uint8_t *book, size_t records, struct dice *dice)
+{
+    struct making m = { { book }, book + records * RECORD, dice };
+    random_tree(&m, 1, 1);
+    return (size_t)(m.pen.at - book);
+}
+
+size_t random_request(uint8_t *request, size_t entries, struct dice *dice)
+{
+    struct pen pen = { request };
+    for (size_t left = roll(dice, (unsigned)entries + 1); left > 0; left--) {
+        unsigned type = 1 + roll(dice, 3);
+        put_entry(&pen, 1 + roll(dice, 4), type, roll(dice, 2), random_value(dice, type));
+    }
+    return (size_t)(pen.at - request);
+}

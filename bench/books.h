@@ -23,4 +23,15 @@ size_t growth_request(uint8_t *request, size_t entries);
 enum filling { SETS, CONDITIONS, POLICY_TARGET, RULE_TARGET, FILLINGS };
 size_t deep_book(uint8_t *book, unsigned algorithm, unsigned sets, enum filling filling);
 
+/* Chance that repeats with its seed, which is not 0: a number below below. */
+struct dice {
+    uint64_t seed;
+};
+unsigned roll(struct dice *dice, unsigned below);
+
+/* An accepted book of 1 to records records, and an accepted request of 0 to entries entries: few keys and few values, so
+ * that they often meet. Both return the length in bytes. */
+size_t random_book(uint8_t *book, size_t records, struct dice *dice);
+size_t random_request(uint8_t *request, size_t entries, struct dice *dice);
+
 #endif

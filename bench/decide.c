@@ -43,7 +43,7 @@ static void agree(const struct input *in, side *of)
 static void one(const struct input *in)
 {
     agree(in, proved);
-    measure("decide", in, plain, proved);
+    measure("decide", in, (struct timed){ plain, NULL, 1 }, (struct timed){ proved, NULL, 1 });
 }
 
 /* The output that a book needs: two bytes for each obligation record. */

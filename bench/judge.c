@@ -43,7 +43,7 @@ static void one(const char *name, uint8_t *book, size_t book_len)
     judges(plain, &in, book);
     if (proved)
         judges(proved, &in, book);
-    measure("judge", &in, plain, proved);
+    measure("judge", &in, (struct timed){ plain, NULL, 1 }, (struct timed){ proved, NULL, 1 });
 }
 
 int main(void)

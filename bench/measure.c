@@ -7,7 +7,7 @@
 #include <time.h>
 #include <ucontext.h>
 
-enum { REPEATS = 1000, BATCH_NANOSECONDS = 50000 };
+enum { TURNS = 1000, FEWEST_TURNS = 21, BATCH_NANOSECONDS = 50000, ROW_NANOSECONDS = 200000000 };
 
 static double now(void)
 {
@@ -42,37 +42,54 @@ static double median(double *of, size_t count)
     return of[count / 2];
 }
 
-void measure(const char *what, const struct input *input, side *plain, side *proved)
+/* One turn of a side: nanoseconds of a call, or of a step. */
+static double turn(struct timed of, const struct input *input, unsigned calls)
 {
-    static double plains[REPEATS], proveds[REPEATS], ratios[REPEATS];
-    unsigned calls = 1;
-    while (batch(plain, input, calls) < BATCH_NANOSECONDS)
+    double time = batch(of.call, input, calls);
+    if (of.less)
+        time = (time - batch(of.less, input, calls)) / (double)of.steps;
+    return time / calls;
+}
+
+void measure(const char *what, const struct input *input, struct timed plain, struct timed proved)
+{
+    static double plains[TURNS], proveds[TURNS], ratios[TURNS];
+    unsigned calls = 1, turns = 0;
+    while (batch(plain.call, input, calls) < BATCH_NANOSECONDS)
         calls *= 2;
-    for (unsigned i = 0; i < REPEATS; i++) {
-        if (proved && i % 2 == 0)
-            proveds[i] = batch(proved, input, calls) / calls;
-        plains[i] = batch(plain, input, calls) / calls;
-        if (proved && i % 2 == 1)
-            proveds[i] = batch(proved, input, calls) / calls;
-        ratios[i] = proveds[i] / plains[i];
+    double start = now();
+    for (; turns < TURNS && (turns < FEWEST_TURNS || now() - start < ROW_NANOSECONDS); turns++) {
+        if (proved.call && turns % 2 == 0)
+            proveds[turns] = turn(proved, input, calls);
+        plains[turns] = turn(plain, input, calls);
+        if (proved.call && turns % 2 == 1)
+            proveds[turns] = turn(proved, input, calls);
+        ratios[turns] = proveds[turns] / plains[turns];
     }
-    double plain_time = median(plains, REPEATS);
-    if (proved)
-        row(what, input, "ns", plain_time, median(proveds, REPEATS), median(ratios, REPEATS));
+    double plain_time = median(plains, turns);
+    if (proved.call)
+        row(what, input, "ns", plain_time, median(proveds, turns), median(ratios, turns));
     else
         row_of_plain(what, input, "ns", plain_time);
 }
 
+/* An amount with three figures or all of them before the point, in a column of its own. */
+static void amount(double of)
+{
+    printf("%.*f\t", of < 10 ? 2 : of < 100 ? 1 : 0, of);
+}
+
 static void head(const char *what, const struct input *input, const char *unit, double plain)
 {
-    printf("%s\t%s\t%zu\t%zu\t", what, input->name, input->book_len / 16, input->request_len / 16);
-    printf("%s\t%.0f\t", unit, plain);
+    printf("%s\t%s\t%zu\t%zu\t%s\t", what, input->name, input->book_len / 16, input->request_len / 16, unit);
+    amount(plain);
 }
 
 void row(const char *what, const struct input *input, const char *unit, double plain, double proved, double ratio)
 {
     head(what, input, unit, plain);
-    printf("%.0f\t%.2f\n", proved, ratio);
+    amount(proved);
+    printf("%.2f\n", ratio);
     fflush(stdout);
 }
 

@@ -1,41 +1,13 @@
 #include "plain.h"
+#include "plain_bytes.h"
 
-#include <stdbool.h>
-#include <string.h>
-
-enum { SIZE = 16, MOST_RECORDS = 1000, MOST_ENTRIES = 64, MOST_DEPTH = 16 };
-enum { SET = 1, POLICY, RULE, SECTION, CONJUNCTION, MATCH, CONDITION, OBLIGATION };
-enum { DENY_OVERRIDES = 1, PERMIT_OVERRIDES, FIRST_APPLICABLE, ONLY_ONE_APPLICABLE };
-enum { AND = 1, OR, NOT, COMPARISON = 10 };
-enum { EQUAL = 1, GREATER, GREATER_OR_EQUAL, LESS, LESS_OR_EQUAL };
-enum { INTEGER = 1, NAME, DOUBLE, MUST_BE_PRESENT = 128 };
-enum { PERMIT = 1, DENY, NOT_APPLICABLE, INDETERMINATE };
-enum { BOOK = 1, REQUEST, OUTPUT };
-
-static uint64_t refusal(unsigned number, unsigned part, size_t line)
-{
-    return 255 + 256 * (uint64_t)number + 65536 * (uint64_t)line + 4294967296 * (uint64_t)part;
-}
-
-static inline unsigned big2(const uint8_t *p)
-{
-    return (unsigned)p[0] << 8 | p[1];
-}
-
-static inline uint32_t big4(const uint8_t *p)
-{
-    return (uint32_t)big2(p) << 16 | big2(p + 2);
-}
-
-static inline uint64_t big8(const uint8_t *p)
-{
-    return (uint64_t)big4(p) << 32 | big4(p + 4);
-}
-
-static inline bool is_finite(uint64_t bits)
-{
-    return (bits >> 52 & 0x7FF) != 0x7FF;
-}
+/* A copy of this file built with -DCOUNTED counts the records that it looks at while it decides. */
+#ifdef COUNTED
+uint64_t looked;
+#define LOOK() (looked++)
+#else
+#define LOOK() ((void)0)
+#endif
 
 /* ---- Judging a book ---------------------------------------------------------------------------------------- */
 
@@ -146,20 +118,20 @@ static uint64_t broken_place(const uint8_t *book, size_t at, size_t records)
     for (size_t i = at; i < records; i++) {
         unsigned state = FULL;
         if (judge_record(book + i * SIZE, &state) == BROKEN_FIELD)
-            return refusal(5, BOOK, i + 1);
+            return refusal(5, OF_BOOK, i + 1);
     }
-    return refusal(6, BOOK, at + 1);
+    return refusal(6, OF_BOOK, at + 1);
 }
 
 uint64_t plain_judge_book(const uint8_t *book, size_t book_len)
 {
     size_t records = book_len / SIZE;
     if (book_len == 0)
-        return refusal(3, BOOK, 0);
+        return refusal(3, OF_BOOK, 0);
     if (book_len % SIZE != 0)
-        return refusal(4, BOOK, 0);
+        return refusal(4, OF_BOOK, 0);
     if (records > MOST_RECORDS)
-        return refusal(2, BOOK, 0);
+        return refusal(2, OF_BOOK, 0);
     if (big2(book + 2) != records)
         return broken_place(book, 0, records);
 
@@ -183,7 +155,7 @@ uint64_t plain_judge_book(const uint8_t *book, size_t book_len)
         }
         size_t its_end = i + big2(record + 2);
         if (opens == BROKEN_FIELD)
-            return refusal(5, BOOK, i + 1);
+            return refusal(5, OF_BOOK, i + 1);
         if (opens == BROKEN_PLACE || its_end > end)
             return broken_place(book, i, records);
         if (its_end > i + 1) {
@@ -201,13 +173,13 @@ uint64_t plain_judge_request(const uint8_t *request, size_t request_len)
 {
     size_t entries = request_len / SIZE;
     if (request_len % SIZE != 0)
-        return refusal(4, REQUEST, 0);
+        return refusal(4, OF_REQUEST, 0);
     if (entries > MOST_ENTRIES)
-        return refusal(2, REQUEST, 0);
+        return refusal(2, OF_REQUEST, 0);
     for (size_t i = 0; i < entries; i++) {
         const uint8_t *entry = request + i * SIZE;
         if (!from_to(1, entry[0], 4) || !value_fits(entry[1], big8(entry + 8)) || big4(entry + 4) != 0)
-            return refusal(5, REQUEST, i + 1);
+            return refusal(5, OF_REQUEST, i + 1);
     }
     return 0;
 }
@@ -223,12 +195,7 @@ struct call {
     size_t count;
 };
 
-static const uint8_t *after(const uint8_t *record)
-{
-    return record + SIZE * (size_t)big2(record + 2);
-}
-
-/* Category, type and identifier of a match or comparison, as the first four bytes of an entry hold them. */
+/* The key of a match or comparison, as has_key wants it. */
 static uint32_t key_of(const uint8_t *record)
 {
     uint8_t bytes[4] = { record[4], record[5] & ~MUST_BE_PRESENT, record[6], record[7] };
@@ -237,48 +204,14 @@ static uint32_t key_of(const uint8_t *record)
     return key;
 }
 
-static bool has_key(const uint8_t *entry, uint32_t key)
-{
-    uint32_t its;
-    memcpy(&its, entry, sizeof its);
-    return its == key;
-}
-
-static double double_of(uint64_t bits)
-{
-    double d;
-    memcpy(&d, &bits, sizeof d);
-    return d;
-}
-
-/* The function of a match or comparison: the record's literal first, then the entry's value. */
-static bool holds(unsigned function, const uint8_t *record, const uint8_t *entry)
-{
-    uint64_t a = big8(record + 8), b = big8(entry + 8);
-    bool is_double = entry[1] == DOUBLE;
-    switch (function) {
-    case GREATER_OR_EQUAL:
-        if (a == b)
-            return true; /* fall through */
-    case GREATER:
-        return is_double ? double_of(a) > double_of(b) : (int64_t)a > (int64_t)b;
-    case LESS_OR_EQUAL:
-        if (a == b)
-            return true; /* fall through */
-    case LESS:
-        return is_double ? double_of(a) < double_of(b) : (int64_t)a < (int64_t)b;
-    default:
-        return a == b;
-    }
-}
-
 static enum truth match(const struct call *call, const uint8_t *record)
 {
     uint32_t key = key_of(record);
     bool found = false;
+    LOOK();
     for (const uint8_t *entry = call->request; entry != call->request_end; entry += SIZE)
         if (has_key(entry, key)) {
-            if (holds(record[1], record, entry))
+            if (holds(record[1], entry[1], big8(record + 8), big8(entry + 8)))
                 return TRUE;
             found = true;
         }
@@ -297,12 +230,13 @@ static enum truth comparison(const struct call *call, const uint8_t *record)
         }
     if (!only)
         return UNKNOWN;
-    return holds(record[1] - COMPARISON, record, only) ? TRUE : FALSE;
+    return holds(record[1] - COMPARISON, only[1], big8(record + 8), big8(only + 8)) ? TRUE : FALSE;
 }
 
 static enum truth condition(const struct call *call, const uint8_t *record)
 {
     const uint8_t *part = record + SIZE, *end = after(record);
+    LOOK();
     if (record[1] > COMPARISON)
         return comparison(call, record);
     if (record[1] == NOT) {
@@ -323,6 +257,7 @@ static enum truth condition(const struct call *call, const uint8_t *record)
 static enum truth conjunction(const struct call *call, const uint8_t *record)
 {
     enum truth answer = TRUE;
+    LOOK();
     for (const uint8_t *part = record + SIZE, *end = after(record); part != end; part += SIZE) {
         enum truth truth = match(call, part);
         if (truth == FALSE)
@@ -336,6 +271,7 @@ static enum truth conjunction(const struct call *call, const uint8_t *record)
 static enum truth section(const struct call *call, const uint8_t *record)
 {
     enum truth answer = FALSE;
+    LOOK();
     for (const uint8_t *part = record + SIZE, *end = after(record); part != end; part = after(part)) {
         enum truth truth = conjunction(call, part);
         if (truth == TRUE)
@@ -364,6 +300,7 @@ static enum truth target(const struct call *call, const uint8_t **child, const u
 static unsigned rule(const struct call *call, const uint8_t *record)
 {
     const uint8_t *child = record + SIZE, *end = after(record);
+    LOOK();
     enum truth truth = target(call, &child, end);
     if (truth == TRUE && child != end)
         truth = condition(call, child);
@@ -416,6 +353,7 @@ static unsigned only_one(struct call *call, const uint8_t *child, const uint8_t 
     const uint8_t *chosen = NULL, *body = NULL;
     for (; child != end && is_policy_or_set(child); child = after(child)) {
         const uint8_t *first = child + SIZE;
+        LOOK();
         enum truth truth = target(call, &first, after(child));
         if (truth == UNKNOWN || (truth == TRUE && chosen))
             return INDETERMINATE;
@@ -460,17 +398,20 @@ static unsigned matched(struct call *call, const uint8_t *record, const uint8_t 
         return answer;
     while (child != end && *child != OBLIGATION)
         child = after(child);
-    for (; child != end; child += SIZE)
+    for (; child != end; child += SIZE) {
+        LOOK();
         if (child[1] == answer) {
             memcpy(call->out + 2 * call->count, child + 6, 2);
             call->count++;
         }
+    }
     return answer;
 }
 
 static unsigned policy_or_set(struct call *call, const uint8_t *record)
 {
     const uint8_t *child = record + SIZE, *end = after(record);
+    LOOK();
     enum truth truth = target(call, &child, end);
     if (truth == TRUE)
         return matched(call, record, child, end);
@@ -481,13 +422,13 @@ uint64_t plain_decide(const uint8_t *book, size_t book_len, const uint8_t *reque
                       uint8_t *out, size_t out_len)
 {
     uint64_t judged = plain_judge_book(book, book_len);
-    if ((judged & 255) == 255)
+    if (is_refusal(judged))
         return judged;
     uint64_t refused = plain_judge_request(request, request_len);
     if (refused)
         return refused;
     if (out_len < 2 * (judged / 256))
-        return refusal(7, OUTPUT, 0);
+        return refusal(7, OF_OUTPUT, 0);
 
     struct call call = { request, request + request_len, out, 0 };
     unsigned decision = policy_or_set(&call, book);

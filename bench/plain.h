@@ -20,4 +20,10 @@ uint64_t plain_judge_request(const uint8_t *request, size_t request_len);
 uint64_t plain_decide(const uint8_t *book, size_t book_len, const uint8_t *request, size_t request_len,
                       uint8_t *out, size_t out_len);
 
+/* The same from a copy that counts, in looked, the records that it looks at: from left to right, stopping at the first
+ * part that settles an and, an or or an algorithm. */
+uint64_t counted_decide(const uint8_t *book, size_t book_len, const uint8_t *request, size_t request_len,
+                        uint8_t *out, size_t out_len);
+extern uint64_t looked;
+
 #endif

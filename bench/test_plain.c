@@ -1,6 +1,8 @@
-/* Tries the plain C of the benchmark on document 01's P1 to P11, its Run line, some refusals, and the examples.
+/* Tries the plain C of the benchmark on document 01's P1 to P11, its Run line, some refusals, and the examples: decided, and
+ * run as a programme.
  * Run from the top of the repository; built by bench/run. Exit status 0 if all is right, else 1. */
 #include "books.h"
+#include "machine.h"
 #include "plain.h"
 
 #include <stdio.h>
@@ -23,6 +25,23 @@ static void print_line(char *line, uint64_t number)
         line += sprintf(line, "%02X%02X", out[2 * i], out[2 * i + 1]);
 }
 
+/* Runs the book's programme on the request, with steps dealt out by chance: it must answer like the decision that is in
+ * number and out. */
+static int runs_alike(size_t book_len, size_t request_len, uint64_t number)
+{
+    static struct programme programme;
+    static struct dice dice = { 1 };
+    static uint16_t places[BACHUMOI_PLACES];
+    uint64_t steps;
+    translate(&plain_machine, book, book_len, &programme);
+    if (run(&plain_machine, &programme, request, request_len, &dice, places, &steps) != number)
+        return 0;
+    for (size_t i = 0; i < BACHUMOI_PLACES; i++)
+        if (places[i] != (i < number >> 8 ? (out[2 * i] << 8 | out[2 * i + 1]) : 0))
+            return 0;
+    return 1;
+}
+
 /* Decides and compares with the line expected. Of out, all lent bytes after the obligations must be zero and all the
  * others as they were. */
 static void expect_bytes(const char *name, size_t book_len, size_t request_len, size_t out_len, const char *expected)
@@ -36,6 +55,9 @@ static void expect_bytes(const char *name, size_t book_len, size_t request_len, 
         right &= out[i] == (refused || i >= out_len ? 0xEE : 0);
     if (!right) {
         printf("plain C: %s: %s, not %s\n", name, line, expected);
+        failed = 1;
+    } else if (!refused && !runs_alike(book_len, request_len, number)) {
+        printf("plain C: %s: its programme does not answer %s\n", name, expected);
         failed = 1;
     }
 }
@@ -134,6 +156,22 @@ static void refusals(void)
     expect_bytes("entry with must-be-present", book_len, request_len, 4, "FF05020001");
 }
 
+/* The programme of book A, as docs/PROGRAMME.md has it. */
+static void programme_of_a(void)
+{
+    static const uint64_t page[13] = { 0x10, 0x16, 0x65, 0x401000722, 0x32, 0x15, 0x28, 0x229, 0x259, 0xA, 0x8, 0xB, 0xC };
+    static struct programme programme;
+    uint16_t places[BACHUMOI_PLACES];
+    uint64_t steps = 0, refused = plain_machine.translate(book, bytes_of_text(A, book, sizeof book), programme.entries, 55);
+    size_t request_len = bytes_of_text(A_40, request, sizeof request);
+    translate(&plain_machine, book, 6 * RECORD, &programme);
+    run(&plain_machine, &programme, request, request_len, NULL, places, &steps);
+    if (refused != 0x3000007FF || programme.length != 13 || memcmp(programme.entries, page, sizeof page) != 0 || steps != 12) {
+        printf("plain C: the programme of book A is not that of docs/PROGRAMME.md\n");
+        failed = 1;
+    }
+}
+
 /* The answers that a folder of examples says it has. */
 static void examples(const char *folder)
 {
@@ -161,6 +199,7 @@ int main(void)
     worked();
     run_line();
     refusals();
+    programme_of_a();
     examples("examples/a");
     examples("examples/rig");
     printf("%s\n", failed ? "plain C: not as document 01 says" : "plain C: ok");

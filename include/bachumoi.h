@@ -62,23 +62,128 @@ extern "C" {
 uint64_t bachumoi_decide(const uint8_t *book, size_t book_len, const uint8_t *request, size_t request_len,
                          uint8_t *out, size_t out_len);
 
-#define BACHUMOI_PERMIT 1
-#define BACHUMOI_DENY 2
-#define BACHUMOI_NOT_APPLICABLE 3
-#define BACHUMOI_INDETERMINATE 4
+/* What a number says: of bachumoi_decide and bachumoi_tick alike. Running is no decision, and neither is a refusal. */
+enum bachumoi_answer {
+    BACHUMOI_RUNNING = 0, /* of a tick alone: no answer yet, the next tick goes on */
+    BACHUMOI_PERMIT = 1,
+    BACHUMOI_DENY = 2,
+    BACHUMOI_NOT_APPLICABLE = 3,
+    BACHUMOI_INDETERMINATE = 4,
+    BACHUMOI_REFUSED = 255
+};
 
-/* Taking the number apart. Ask bachumoi_refused first: the next two are for decisions, the last three for refusals. */
-static inline int bachumoi_refused(uint64_t answer) { return (answer & 255) == 255; }
-static inline unsigned bachumoi_decision(uint64_t answer) { return (unsigned)(answer & 255); }
-static inline unsigned bachumoi_count(uint64_t answer) { return (unsigned)(answer >> 8 & 65535); }
-static inline unsigned bachumoi_number(uint64_t answer) { return (unsigned)(answer >> 8 & 255); }
-static inline unsigned bachumoi_line(uint64_t answer) { return (unsigned)(answer >> 16 & 65535); }
-static inline unsigned bachumoi_part(uint64_t answer) { return (unsigned)(answer >> 32 & 255); }
+/* Taking a number apart. A switch over bachumoi_answer that forgets a case, running say, is warned of by -Wswitch (in
+ * -Wall). Count is 0 unless there is a decision; number, line and part are 0 unless it is a refusal. */
+static inline enum bachumoi_answer bachumoi_answer(uint64_t number)
+{
+    unsigned low = (unsigned)(number & 255);
+    return low <= BACHUMOI_INDETERMINATE ? (enum bachumoi_answer)low : BACHUMOI_REFUSED;
+}
+static inline int bachumoi_refused(uint64_t number) { return bachumoi_answer(number) == BACHUMOI_REFUSED; }
+static inline int bachumoi_decided(uint64_t number)
+{
+    return bachumoi_answer(number) != BACHUMOI_RUNNING && bachumoi_answer(number) != BACHUMOI_REFUSED;
+}
+static inline unsigned bachumoi_count(uint64_t number)
+{
+    return bachumoi_decided(number) ? (unsigned)(number >> 8 & 65535) : 0;
+}
+static inline unsigned bachumoi_number(uint64_t number)
+{
+    return bachumoi_refused(number) ? (unsigned)(number >> 8 & 255) : 0;
+}
+static inline unsigned bachumoi_line(uint64_t number)
+{
+    return bachumoi_refused(number) ? (unsigned)(number >> 16 & 65535) : 0;
+}
+static inline unsigned bachumoi_part(uint64_t number)
+{
+    return bachumoi_refused(number) ? (unsigned)(number >> 32 & 255) : 0;
+}
 
 /* ---- The rig's loop: link librig.a -------------------------------------------------------------------------
  *
- * Here come the functions that translate a book into a programme, make the fresh state and take a tick.
+ * A book is translated once, into a programme. A request is then run: from the fresh state, tick by tick, each tick with
+ * as many steps as its frame has time for, until a tick says which decision. All that a run knows is in its programme,
+ * its request and its state; between ticks they may be kept, copied or moved as the loop likes. Each run has a state of
+ * its own and the same request in all its ticks. docs/PROGRAMME.md draws the layout of programme and state.
+ *
+ * A run takes no more steps than its programme has entries, and at least one, however they are dealt out.
  */
+enum {
+    BACHUMOI_RECORD = 16,           /* bytes of a record of a book, and of an entry of a request */
+    BACHUMOI_MOST_RECORDS = 1000,   /* records of a book */
+    BACHUMOI_MOST_ENTRIES = 64,     /* entries of a request */
+    BACHUMOI_MOST_PROGRAMME = 8008, /* numbers of a programme: room for any book's */
+    BACHUMOI_NUMBERS = 33,          /* numbers of a state: the first number, 17 frames, 15 levels */
+    BACHUMOI_PLACES = 1000          /* obligation places of a state; and of the output of a tick */
+};
+
+/* The numbers that must be lent to translate a book of so many records. */
+#define BACHUMOI_ROOM(records) (8 * (size_t)(records) + 8)
+
+/* Translates a book.
+ *
+ *   book        book_len bytes, as for bachumoi_decide
+ *   programme   programme_len numbers, at least BACHUMOI_ROOM(book_len / 16)
+ *
+ * Returns 256 x the number of entries that it has put first in programme, 1 to BACHUMOI_ROOM of them; all other numbers
+ * are as they were. Or a refusal, of the book (part 1), then of the output (7, part 3): programme is as it was.
+ */
+uint64_t bachumoi_translate(const uint8_t *book, size_t book_len, uint64_t *programme, size_t programme_len);
+
+static inline size_t bachumoi_entries(uint64_t number) { return bachumoi_refused(number) ? 0 : (size_t)(number >> 8); }
+
+/* Makes the fresh state, with which every run begins, whatever its programme.
+ *
+ *   numbers     numbers_len numbers, at least BACHUMOI_NUMBERS: the first 33 are filled
+ *   places      places_len places, at least BACHUMOI_PLACES: the first 1,000 are filled
+ *
+ * Returns 0. Or the refusal 7 (part 3) where one of them is too short: both are as they were.
+ */
+uint64_t bachumoi_fresh(uint64_t *numbers, size_t numbers_len, uint16_t *places, size_t places_len);
+
+/* Takes one tick.
+ *
+ *   programme   programme_len numbers, exactly the entries that bachumoi_translate counted
+ *   request     request_len bytes, as for bachumoi_decide
+ *   numbers, places   the state, which the tick moves on: the first 33 numbers and the first 1,000 places
+ *   budget      the most steps to take, from 0 to the largest number: the tick takes them all, unless the run ends sooner
+ *   out         out_len places, at least BACHUMOI_PLACES, not those of the state
+ *
+ * The number returned is one of three.
+ *
+ * Running: 4,294,967,296 x steps
+ *
+ *   bits 0-7     0, which is no decision
+ *   bits 32-63   steps, how many this tick took: its budget
+ *
+ *   out is as it was.
+ *
+ * Finished: decision + 256 x count + 4,294,967,296 x steps
+ *
+ *   bits 0-7     1 Permit, 2 Deny, 3 NotApplicable, 4 Indeterminate
+ *   bits 8-23    count, how many obligations there are (0 unless Permit or Deny)
+ *   bits 32-63   steps, how many this tick took
+ *
+ *   out holds count obligations in the order in which they were handed up, and zero in every other place. The next tick
+ *   takes no step and says the same.
+ *
+ * A refusal, as of bachumoi_decide: 255 + 256 x number + 65,536 x line + 4,294,967,296 x part
+ *
+ *   The request is judged first (4, 2, then the first line with 5; part 2), then the output (7; part 3), then programme
+ *   and state (8; part 4): no entry or over 8,008, fewer numbers or places than a state has, a first number that the
+ *   layout does not allow, or a step within the budget that meets entries outside their layout. A translated programme in
+ *   its own run never meets 8. No step was taken; numbers, places and out are as they were.
+ *
+ * So a valve may move when bachumoi_answer says BACHUMOI_PERMIT, and only then.
+ */
+uint64_t bachumoi_tick(const uint64_t *programme, size_t programme_len, const uint8_t *request, size_t request_len,
+                       uint64_t *numbers, size_t numbers_len, uint16_t *places, size_t places_len, uint64_t budget,
+                       uint16_t *out, size_t out_len);
+
+/* Steps that a tick took: 0 where it was refused. */
+static inline uint64_t bachumoi_steps(uint64_t number) { return bachumoi_refused(number) ? 0 : number >> 32; }
 
 #ifdef __cplusplus
 }

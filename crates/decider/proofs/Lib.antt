@@ -4,3 +4,5 @@ pub mod Rooms
 pub mod Children
 pub mod Laws
 pub mod Whole
+mod Table
+pub mod Unique

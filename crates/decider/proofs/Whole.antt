@@ -1,19 +1,23 @@
 -- The whole call: judged in order, then decided. Assumes nothing.
 use mathlib.Core.Path.{_≡_, refl, sym, ap, _∙_}
+use mathlib.Core.Bool.{Bool, true, false}
 use mathlib.Core.List.{List, _++_}
-use Prim.Native.Nat.{ℕ, _+_, _-_, _*_, _/_, _≤_, _<_}
+use Prim.Native.Nat.{ℕ, zero, suc, _+_, _-_, _*_, _/_, _≤_, _<_, min}
 use native.Mathlib.Omega.{arith}
 use lib.Dec.{ltb}
-use lib.ListN.{length, take, replicate}
-use borrow.Author.Tests.{lt-ltb, le-ltb}
+use lib.ListN.{length, take, replicate, length-append}
+use lib.Seq.{take-at}
+use borrow.Author.Tests.{lt-ltb, le-ltb, ltb-true, ltb-false}
 use Rattle.record.specs.Choose.{if}
 use Rattle.record.specs.Bytes.{size}
 use Rattle.record.specs.Forest.{forest}
 use Rattle.record.specs.Refusals.{noRoom}
 use Rattle.record.specs.declared.Refusal.{Refusal}
+use Rattle.fields.specs.First.{countBelow}
 use Rattle.fields.specs.Fields.{obligationsOf}
+use Rattle.fields.proofs.First.{by}
 use Rattle.meaning.specs.Meaning.{said, owed, decides, obliges}
-use Rattle.meaning.specs.Reading.{bookOf, bagsOf}
+use Rattle.meaning.specs.Reading.{isKind, bookOf, bagsOf}
 use Rattle.meaning.specs.declared.Decision.{Decision}
 use Rattle.judge.specs.Judge.{judgeOf}
 use Rattle.judge.specs.Request.{judgeRequestOf}
@@ -21,7 +25,10 @@ use Rattle.judge.specs.declared.Judged.{Judged}
 use Rattle.judge.specs.declared.Judged.the-variants as book
 use Rattle.judge.specs.declared.JudgedRequest.{JudgedRequest}
 use Rattle.judge.specs.declared.JudgedRequest.the-variants as request
-use Rattle.judge.proofs.Exactly.{accepted-keeps}
+use Rattle.judge.specs.Exactly.{Breaks, empty, cut, many, field, place}
+use Rattle.judge.specs.ExactlyRequest.{BreaksRequest, cut as cut-request, many as many-entries, field as entry}
+use Rattle.judge.proofs.Exactly.{accepted-keeps, refused-breaks}
+use Rattle.judge.proofs.ExactlyRequest.{refused-request-breaks}
 use Rattle.decider.specs.Outcome.{dutiesOf, inOrder, outcomeOf, filled, outOf}
 use Rattle.decider.specs.Inside.{treeFrom, childAt, roomOf, Ruled, Answered}
 use Rattle.decider.specs.declared.Outcome.{Outcome}
@@ -74,3 +81,77 @@ pub accepted-has : (b : List ℕ) {n k : ℕ} {j : Judged} → j ≡ judgeOf b �
 accepted-has b {n} {k} ej e =
     let w = accepted-keeps b n k (sym ej ∙ e) in
     (w .0 .sized .some, w .0 .sized .bytes, w .1)
+
+-- so no book asks for more than 1,000 places
+count-le : (b : List ℕ) (n : ℕ) → obligationsOf b n ≤ n
+unfolding obligationsOf countBelow
+count-le b zero = omega arith
+count-le b (suc n) = go (isKind b n 8) (count-le b n)
+  where
+    go : (k : Bool) {m : ℕ} → m ≤ n → m + if k 1 0 ≤ suc n
+    go true h = omega arith
+    go false h = omega arith
+
+room-test : (room k : ℕ) → k ≤ 1000 → ltb (min room 1000) k ≡ ltb room k
+room-test room k h =
+    by (ltb room k)
+    (λ t. let l = ltb-true room k t in lt-ltb (min room 1000) k (omega arith) ∙ sym t)
+    (λ t. let l = ltb-false room k t in le-ltb (min room 1000) k (omega arith) ∙ sym t)
+
+pub most-room : (b q : List ℕ) (room : ℕ) → outcomeOf b q (min room 1000) ≡ outcomeOf b q room
+unfolding outcomeOf
+most-room b q room = go (judgeOf b) refl (judgeRequestOf q) (Decided (decides (bagsOf q) (bookOf b)) (length (dutiesOf b q)))
+  where
+    go : (j : Judged) → j ≡ judgeOf b → (h : JudgedRequest) (a : Outcome) → inOrder j h (min room 1000) a ≡ inOrder j h room a
+    go (book.Refused r) e h a = refl
+    go (book.Accepted n k) e (request.Refused r) a = refl
+    go (book.Accepted n k) e (request.Accepted m) a =
+        let w = accepted-keeps b n k (sym e) in
+        rw (room-test room k (omega (arith, w .1, count-le b n, w .0 .sized .most)))
+
+-- what an answer says of its call
+inverted : (j : Judged) (h : JudgedRequest) (room : ℕ) (v : Decision) (m : ℕ) {d : Decision} {n : ℕ} → inOrder j h room (Decided v m) ≡ Decided d n → n ≡ m
+inverted (book.Refused r) h room v m e = cc
+inverted (book.Accepted n k) (request.Refused r) room v m e = cc
+inverted (book.Accepted n k) (request.Accepted p) room v m e = go (ltb room k) e
+  where
+    go : (t : Bool) {d : Decision} {n : ℕ} → if t (Refused noRoom) (Decided v m) ≡ Decided d n → n ≡ m
+    go true e = cc
+    go false e = cc
+
+pub decided-puts : (b q l : List ℕ) {e : List ℕ} {o : Outcome} {d : Decision} {n : ℕ} → o ≡ outcomeOf b q (length l) → o ≡ Decided d n → e ≡ outOf b q l
+    → length e ≡ length l → (n ≤ length e) × (take n e ≡ dutiesOf b q)
+unfolding outcomeOf outOf
+decided-puts b q l {e} {o} {d} {n} eo ed ee el =
+    let c : n ≡ length (dutiesOf b q) = inverted (judgeOf b) (judgeRequestOf q) (length l) (decides (bagsOf q) (bookOf b)) (length (dutiesOf b q)) (sym eo ∙ ed) in
+    let x : e ≡ dutiesOf b q ++ replicate (length l - length (dutiesOf b q)) 0 = rw (← eo, ed) at ee in
+    let y : length e ≡ length (dutiesOf b q) + length (replicate {A = ℕ} (length l - length (dutiesOf b q)) 0) = ap length x ∙ length-append (dutiesOf b q) (replicate (length l - length (dutiesOf b q)) 0) in
+    (omega (arith, y, c), rw x (take-at (dutiesOf b q) (replicate (length l - length (dutiesOf b q)) 0) n (sym c)))
+
+pub refused-line : (b q : List ℕ) (room : ℕ) {r : Refusal} → outcomeOf b q room ≡ Refused r → r .line ≤ 1000
+unfolding outcomeOf
+refused-line b q room {r} = go (judgeOf b) refl (judgeRequestOf q) refl
+  where
+    broken : {s : Refusal} → Breaks b s → s .line ≤ 1000
+    broken (empty e x) = rw e (omega arith)
+    broken (cut e x) = rw e (omega arith)
+    broken (many e x y) = rw e (omega arith)
+    broken (field n i e z w) = rw e (omega (arith, z .most, w .inside))
+    broken (place n i e z k w) = rw e (omega (arith, z .most, w .inside))
+
+    asked : {s : Refusal} → BreaksRequest q s → s .line ≤ 1000
+    asked (cut-request e x) = rw e (omega arith)
+    asked (many-entries e x y) = rw e (omega arith)
+    asked (entry n i e z w) = rw e (omega (arith, z .most, w .inside))
+
+    same : {s t : Refusal} → Refused s ≡ Refused t → s .line ≤ 1000 → t .line ≤ 1000
+    same {s} {t} e h = let x : s ≡ t = cc in rw (← x) h
+
+    go : (j : Judged) → j ≡ judgeOf b → (h : JudgedRequest) → h ≡ judgeRequestOf q → inOrder j h room (Decided (decides (bagsOf q) (bookOf b)) (length (dutiesOf b q))) ≡ Refused r → r .line ≤ 1000
+    go (book.Refused s) ej h eh e = same e (broken (refused-breaks b s (sym ej)))
+    go (book.Accepted n k) ej (request.Refused s) eh e = same e (asked (refused-request-breaks q s (sym eh)))
+    go (book.Accepted n k) ej (request.Accepted m) eh e = at (ltb room k) e
+      where
+        at : (t : Bool) → if t (Refused noRoom) (Decided (decides (bagsOf q) (bookOf b)) (length (dutiesOf b q))) ≡ Refused r → r .line ≤ 1000
+        at true e = same e (omega arith)
+        at false e = let z : _≡_ {A = ℕ} 0 1 = cc in absurd (omega arith)

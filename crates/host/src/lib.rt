@@ -12,6 +12,12 @@ ghost use Rattle.host.specs.Host.{hostNumber, pairsOf, hostOutcome, host
 // No book has more obligation records.
 const MOST: usize = 1000;
 
+fn zeros() -> [u16; MOST]
+    ensures { λ r. ⌜ 1000 ≡ length r ⌝ }
+{
+    [0; MOST]
+}
+
 fn least(a: usize, b: usize) -> usize
     ensures { λ r. ⌜ r ≡ min a b ⌝ }
 {
@@ -83,7 +89,7 @@ pub extern "C" fn bachumoi_decide(book: &[u8], request: &[u8], out: &mut [u8]) -
     ensures { λ r. ⌜ (r ≡ hostNumber (hostOutcome (now (book .entry)) (now (request .entry)) (now (out .entry))))
         × (now (out .exit) ≡ hostOut (now (book .entry)) (now (request .entry)) (now (out .entry))) ⌝ }
 {
-    let mut places = [0u16; MOST];
+    let mut places = zeros();
     let room = least(out.len() / 2, MOST);
     decide_in(book, request, &mut places[..room], out)
 }

@@ -15,7 +15,7 @@ use Rattle.programme.specs.Step.{mayStep, stepOf, isOver}
 use Rattle.programme.proofs.Forward.{still-allowed, further-on}
 use Rattle.run.specs.Run.{stay, oneMore, goOn, runOf}
 use Rattle.run.specs.Runs.{andThen, RunsAdd, stepsLeft, NoMoreThanEntries, TheSmaller, FinishedStays, RunsStayAllowed}
-use Rattle.run.specs.declared.Ran.{Ran}
+use Rattle.run.specs.declared.kinds.Ran.{Ran}
 
 pub finished-stays : FinishedStays
 unfolding runOf

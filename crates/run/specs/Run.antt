@@ -5,7 +5,7 @@ use mathlib.Core.List.{List}
 use Rattle.meaning.specs.Meaning.{Bags}
 use Rattle.programme.specs.declared.State.{State}
 use Rattle.programme.specs.Step.{mayStep, stepOf, isOver}
-use Rattle.run.specs.declared.Ran.{Ran}
+use Rattle.run.specs.declared.kinds.Ran.{Ran}
 
 -- a run of at most so many steps: no further than a finished state, and not ok where a step that it would take meets entries outside their layout
 abbrev pub stay : Bool → State → Ran

@@ -9,7 +9,7 @@ use Rattle.programme.specs.declared.State.{State}
 use Rattle.programme.specs.Layout.{unpackOf, allowed}
 use Rattle.programme.specs.Step.{isOver}
 use Rattle.run.specs.Run.{runOf, stay}
-use Rattle.run.specs.declared.Ran.{Ran}
+use Rattle.run.specs.declared.kinds.Ran.{Ran}
 
 -- go on from a run's end with b more, unless a step met entries outside their layout
 abbrev pub andThen : List ℕ → Bags → Bool → Ran → ℕ → Ran

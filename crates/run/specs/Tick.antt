@@ -15,11 +15,11 @@ use Rattle.judge.specs.declared.JudgedRequest.the-variants as judged
 use Rattle.programme.specs.declared.State.{State}
 use Rattle.programme.specs.Layout.{unpackOf, allowed}
 use Rattle.programme.specs.Step.{isOver, countBy}
-use Rattle.run.specs.declared.Answer.{Answer}
-use Rattle.run.specs.declared.Answer.the-variants.{Running, Finished, Refused}
-use Rattle.run.specs.declared.Ran.{Ran}
+use Rattle.run.specs.declared.kinds.Answer.{Answer}
+use Rattle.run.specs.declared.kinds.Answer.the-variants.{Running, Finished, Refused}
+use Rattle.run.specs.declared.kinds.Ran.{Ran}
 use Rattle.run.specs.Run.{runOf}
-use Rattle.run.specs.declared.Tick.{Tick}
+use Rattle.run.specs.declared.kinds.Tick.{Tick}
 
 -- the programme has an entry and not over 8,008, and the state is one that its layout allows
 unfoldable pub admitted : ℕ → ℕ → Bool

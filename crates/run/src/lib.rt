@@ -1,37 +1,61 @@
 // Runs and ticks of a programme.
+
+// The types stand apart, since a tick is both what is done and what it gives.
+pub mod kinds {
+    use meaning::Decision;
+    use programme::State;
+    use record::Refusal;
+
+    // The answer says running, or finished, with which decision and how many obligations, or why the tick was refused.
+    pub enum Answer {
+        Running,
+        Finished(Decision, u64),
+        Refused(Refusal),
+    }
+
+    // Whether each step that the run would take met entries in their layout, the state that it led to, and the steps taken.
+    pub struct Ran {
+        pub ok: bool,
+        pub state: State,
+        pub steps: u64,
+    }
+
+    // The state after a tick, the steps that it took, and its answer.
+    pub struct Tick {
+        pub state: State,
+        pub steps: u64,
+        pub answer: Answer,
+    }
+}
+
 use judge::JudgedRequest;
+use kinds::Answer;
+use kinds::Ran;
+use kinds::Tick;
 use meaning::Decision;
+use programme::Head;
 use programme::State;
 use record::Refusal;
 ghost use mathlib.Core.Path.{_≡_};
 ghost use mathlib.Core.Bool.{true};
-ghost use Prim.Native.Nat.{_≤_};
-ghost use lib.ListN.{length};
+ghost use mathlib.Core.List.{_++_};
+ghost use Prim.Native.Nat.{_-_, _≤_};
+ghost use lib.ListN.{length, take, drop, replicate};
+ghost use Rattle.record.specs.Choose.{if};
 ghost use Rattle.meaning.specs.Reading.{bagsOf};
-ghost use Rattle.programme.specs.Layout.{allowed};
-ghost use Rattle.programme.specs.Step.{freshOf};
-ghost use Rattle.run.specs.Tick.{runOf, admitted, tickOf};
+ghost use Rattle.programme.specs.Layout.{allowed, unpackOf};
+ghost use Rattle.programme.specs.Step.{countBy, freshOf, stateOf};
+ghost use Rattle.run.specs.Run.{runOf};
+ghost use Rattle.run.specs.Tick.{admitted, tickOf};
+ghost use Rattle.run.specs.declared.kinds.Answer.the-variants.{Running, Finished, Refused};
 
-// The answer says running, or finished, with which decision and how many obligations, or why the tick was refused.
-pub enum Answer {
-    Running,
-    Finished(Decision, u64),
-    Refused(Refusal),
-}
+// The most entries of a programme.
+const MOST: usize = 8008;
 
-pub struct Ran {
-    pub ok: bool,
-    pub state: State,
-    pub steps: u64,
-}
+// The places that a tick needs in its output.
+const PLACES: usize = 1000;
 
-pub struct Tick {
-    pub state: State,
-    pub steps: u64,
-    pub answer: Answer,
-}
-
-// The state before the first step.
+// The state before the first step: all is zero, but a section without a conjunction is False (2^56).
 pub fn fresh() -> State
     ensures { λ r. ⌜ r ≡ freshOf ⌝ }
 {
@@ -43,65 +67,213 @@ pub fn fresh() -> State
     }
 }
 
-// Whether the first number says that the run is finished.
+// Whether the first number says that the run is finished (2^60).
 fn is_over(head: u64) -> bool
     ensures { λ r. ⌜ r ≡ unpackOf head .over ⌝ }
 {
     head / 1152921504606846976 % 2 == 1
 }
 
-// At most so many steps; the arrays are lent to each step and put together at the end.
+// How a run ended, apart from the arrays: whether each step could be taken, the first number, and the steps taken.
+struct Ended {
+    ok: bool,
+    head: u64,
+    steps: u64,
+}
+
+// At most so many steps, with the arrays of the state lent.
+fn run_in(
+    programme: &[u64],
+    request: &[u8],
+    start: u64,
+    budget: u64,
+    frames: &mut [u64; 17],
+    levels: &mut [u64; 15],
+    places: &mut [u16; 1000],
+) -> Ended
+    requires { ⌜ (length (now programme) ≤ 8008) × (allowed start ≡ true) ⌝ }
+    ensures { λ r. ⌜ runOf (now (programme .entry)) (bagsOf (now (request .entry))) budget (stateOf start (now (frames .entry)) (now (levels .entry)) (now (places .entry)))
+        ≡ record { ok = r .ok; state = stateOf (r .head) (now (frames .exit)) (now (levels .exit)) (now (places .exit)); steps = r .steps } ⌝ }
+{
+    let mut head = start;
+    let mut steps: u64 = 0;
+    while steps < budget {
+        if is_over(head) {
+            return Ended {
+                ok: true,
+                head,
+                steps,
+            };
+        }
+        let went = programme::step_in(programme, request, head, frames, levels, places);
+        head = went.head;
+        if !went.ok {
+            return Ended {
+                ok: false,
+                head,
+                steps,
+            };
+        }
+        steps += 1;
+    }
+    Ended {
+        ok: true,
+        head,
+        steps,
+    }
+}
+
+// At most so many steps. The arrays are copied once, lent to each step, and put together at the end.
 fn run(programme: &[u64], request: &[u8], state: State, budget: u64) -> Ran
     requires { ⌜ (length (now programme) ≤ 8008) × (allowed (state .head) ≡ true) ⌝ }
     ensures { λ r. ⌜ r ≡ runOf (now (programme .entry)) (bagsOf (now (request .entry))) budget state ⌝ }
 {
-    let mut head = state.head;
     let mut frames = state.frames;
     let mut levels = state.levels;
     let mut places = state.places;
-    let mut steps: u64 = 0;
-    let mut ok = true;
-    while steps < budget {
-        if is_over(head) {
-            break;
-        }
-        let went = programme::step_in(
-            programme,
-            request,
-            head,
-            &mut frames,
-            &mut levels,
-            &mut places,
-        );
-        if !went.ok {
-            ok = false;
-            break;
-        }
-        head = went.head;
-        steps += 1;
-    }
+    let ended = run_in(
+        programme,
+        request,
+        state.head,
+        budget,
+        &mut frames,
+        &mut levels,
+        &mut places,
+    );
     let end = State {
-        head,
+        head: ended.head,
         frames,
         levels,
         places,
     };
     Ran {
-        ok,
+        ok: ended.ok,
         state: end,
-        steps,
+        steps: ended.steps,
     }
 }
 
-// Whether the programme's length and the first number are as the layout allows.
+// Whether the programme has an entry and not over 8,008, and the layout allows the first number (below 2^61, and four fields in their ranges).
 fn admits(long: usize, head: u64) -> bool
     ensures { λ r. ⌜ r ≡ admitted long head ⌝ }
 {
     if long == 0 {
         return false;
     }
-    if 8008 < long {
+    if MOST < long {
         return false;
     }
-    programme::is_allowed(head)
+    if 2305843009213693952 <= head {
+        return false;
+    }
+    let h = programme::words::unpack(head);
+    if 16 < h.depth {
+        return false;
+    }
+    if 14 < h.nest {
+        return false;
+    }
+    if 1000 < h.permits {
+        return false;
+    }
+    h.cut + h.denies <= 1000
+}
+
+// How many obligations a finished run has.
+fn count(h: Head) -> u64
+    ensures { λ r. ⌜ r ≡ countBy (h .reg) h ⌝ }
+{
+    let reg = h.reg;
+    match reg {
+        Decision::Permit => h.permits,
+        Decision::Deny => h.denies,
+        Decision::NotApplicable => 0,
+        Decision::Indeterminate => 0,
+    }
+}
+
+// What the first number says of the run.
+fn answer(h: Head) -> Answer
+    ensures { λ r. ⌜ r ≡ if (h .over) (Finished (h .reg) (countBy (h .reg) h)) Running ⌝ }
+{
+    if !h.over {
+        return Answer::Running;
+    }
+    let decision = h.reg;
+    Answer::Finished(decision, count(h))
+}
+
+// The first places into the output.
+fn copy(places: &[u16], count: usize, out: &mut [u16])
+    requires { ⌜ (count ≤ length (now places)) × (count ≤ length (now out)) ⌝ }
+    ensures { λ r. ⌜ now (out .exit) ≡ take count (now (places .entry)) ++ drop count (now (out .entry)) ⌝ }
+{
+    let mut i: usize = 0;
+    while i < count {
+        out[i] = places[i];
+        i += 1;
+    }
+}
+
+// Zero in every place of the output from one on.
+fn clear(out: &mut [u16], from: usize)
+    requires { ⌜ from ≤ length (now out) ⌝ }
+    ensures { λ r. ⌜ now (out .exit) ≡ take from (now (out .entry)) ++ replicate (length (now (out .entry)) - from) 0 ⌝ }
+{
+    let mut i: usize = from;
+    while i < out.len() {
+        out[i] = 0;
+        i += 1;
+    }
+}
+
+// The obligations first, and zero in every other place.
+fn fill(places: &[u16; 1000], count: u64, out: &mut [u16])
+    requires { ⌜ (count ≤ 1000) × (1000 ≤ length (now out)) ⌝ }
+    ensures { λ r. ⌜ now (out .exit) ≡ take count (now (places .entry)) ++ replicate (length (now (out .entry)) - count) 0 ⌝ }
+{
+    let n = count as usize;
+    copy(places, n, out);
+    clear(out, n);
+}
+
+// A refused tick returns the state that it was given, and 0 steps.
+fn refused(why: Refusal, state: State) -> Tick
+    ensures { λ r. ⌜ r ≡ record { state = state; steps = 0; answer = Refused why } ⌝ }
+{
+    Tick {
+        state,
+        steps: 0,
+        answer: Answer::Refused(why),
+    }
+}
+
+// A tick: request, output, programme and state are judged, and at most `budget` steps are taken.
+pub fn tick(programme: &[u64], request: &[u8], state: State, budget: u64, out: &mut [u16]) -> Tick
+    ensures { λ r. ⌜ (r ≡ tickOf (now (programme .entry)) (now (request .entry)) state budget (now (out .entry)) .tick)
+        × (now (out .exit) ≡ tickOf (now (programme .entry)) (now (request .entry)) state budget (now (out .entry)) .out) ⌝ }
+{
+    if let JudgedRequest::Refused(why) = judge::judge_request(request) {
+        return refused(why, state);
+    }
+    if out.len() < PLACES {
+        return refused(record::no_room(), state);
+    }
+    if !admits(programme.len(), state.head) {
+        return refused(record::bad_run(), state);
+    }
+    let ran = run(programme, request, state, budget);
+    if !ran.ok {
+        return refused(record::bad_run(), state);
+    }
+    let end = ran.state;
+    let h = programme::words::unpack(end.head);
+    if h.over {
+        fill(&end.places, count(h), out);
+    }
+    Tick {
+        state: end,
+        steps: ran.steps,
+        answer: answer(h),
+    }
 }

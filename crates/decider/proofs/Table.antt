@@ -1,0 +1,113 @@
+-- Document 01's examples P1 to P11, computed from the bytes of its hexadecimal lines: judged, decided, and what is left in four places.
+-- Assumes nothing.
+use mathlib.Core.Path.{_≡_, refl}
+use mathlib.Core.List.{List, [], _∷_, _++_}
+use Prim.Native.Nat.{ℕ, zero, suc, _+_, _/_, _%_}
+use Rattle.record.specs.Bytes.{bigOf, spanOf}
+use Rattle.record.specs.Forest.{spanIn, growF, forest}
+use Rattle.value.specs.Value.{signed64, finiteOf, valueOf, functionOf, holdsOf}
+use Rattle.fields.specs.First.{allBelow, countBelow, lastBelow, firstFrom}
+use Rattle.fields.specs.Fields.{kindOf, kindAt, typeOf, typeAt, finite, zeros, plainOk, sectionOk, comparesOk, obligationOk, fieldOk, obligationsOf}
+use Rattle.fields.specs.Entries.{entryOk}
+use Rattle.meaning.specs.Logic.{andAll, orAll, targetAll}
+use Rattle.meaning.specs.Meaning.{typeOf as keyType, gives, matchIn, matchOf, comparisonOf, conditionOf, conditionsOf, conjunctionOf, sectionOf, sectionsOf, targetOf, whenOf, ruleOf, combine, handed, ownOf, nodeOf, ruleChild, ruleChildren, childOf, childrenOf, decides, obliges}
+use Rattle.meaning.specs.Reading.{keyAt, testAt, matchAt, comparisonAt, rowOf, childrenAt, conjunctionAt, sectionAt, targetIn, conditionAt, conditionsIn, whenIn, ruleAt, rulesIn, obligationsIn, treeAt, treesIn, bookOf, bagFrom, bagsOf}
+use Rattle.meaning.specs.declared.Decision.{Decision}
+use Rattle.meaning.specs.declared.Decision.the-variants.{Permit, Deny, NotApplicable, Indeterminate}
+use Rattle.judge.specs.Place.{endOf, parentOf, elderOf, depthOf, holdsConditions, singleOf, rankAt, elderRank, standsOk, childRule, childBroken, topOk, brokenAt, placeOk}
+use Rattle.judge.specs.Judge.{judgeRecords, judgeOf}
+use Rattle.judge.specs.Request.{judgeEntries, judgeRequestOf}
+use Rattle.decider.specs.Outcome.{dutiesOf, outcomeOf, outOf}
+use Rattle.decider.specs.declared.Outcome.{Outcome}
+use Rattle.decider.specs.declared.Outcome.the-variants.{Decided, Refused}
+
+-- the last n bytes of a number, before what follows; lines of 16 bytes
+bytes : ℕ → ℕ → List ℕ → List ℕ
+bytes zero x rest = rest
+bytes (suc n) x rest = bytes n (x / 256) (x % 256 ∷ rest)
+
+lines : List ℕ → List ℕ
+lines [] = []
+lines (x ∷ xs) = bytes 16 x (lines xs)
+
+bookA : List ℕ
+bookA =
+    0x02010006000000000000000000000000
+    ∷ 0x03010001000000000000000000000000
+    ∷ 0x03020002000000000000000000000000
+    ∷ 0x070C0001040100070000000000000032
+    ∷ 0x08010001000000110000000000000000
+    ∷ 0x08020001000000120000000000000000
+    ∷ []
+
+-- a set over A: deny-overrides, permit-overrides; an only-one set over a policy without rules, then A
+denySet : List ℕ
+denySet = 0x01010007000000000000000000000000 ∷ bookA
+
+permitSet : List ℕ
+permitSet = 0x01020007000000000000000000000000 ∷ bookA
+
+onlySet : List ℕ
+onlySet = 0x01040008000000000000000000000000 ∷ 0x02010001000000000000000000000000 ∷ bookA
+
+-- a subjects section Indeterminate, an actions section No-match; one Permit rule
+twoSections : List ℕ
+twoSections =
+    0x02010008000000000000000000000000
+    ∷ 0x04000003010000000000000000000000
+    ∷ 0x05000002000000000000000000000000
+    ∷ 0x06010001018100010000000000000001
+    ∷ 0x04000003030000000000000000000000
+    ∷ 0x05000002000000000000000000000000
+    ∷ 0x06010001030100010000000000000001
+    ∷ 0x03010001000000000000000000000000
+    ∷ []
+
+-- a single conjunction of False and Indeterminate as target, one Permit rule
+oneConjunction : List ℕ
+oneConjunction =
+    0x02010006000000000000000000000000
+    ∷ 0x04000004010000000000000000000000
+    ∷ 0x05000003000000000000000000000000
+    ∷ 0x06010001010100010000000000000001
+    ∷ 0x06010001018100020000000000000001
+    ∷ 0x03010001000000000000000000000000
+    ∷ []
+
+-- integers in environment attribute 7
+is40 : ℕ
+is40 = 0x04010007000000000000000000000028
+
+is50 : ℕ
+is50 = 0x04010007000000000000000000000032
+
+is60 : ℕ
+is60 = 0x0401000700000000000000000000003C
+
+isMinus1 : ℕ
+isMinus1 = 0x0401000700000000FFFFFFFFFFFFFFFF
+
+record Row : Type 0 where
+  answer : Outcome
+  places : List ℕ
+
+run : List ℕ → List ℕ → Row
+run b q = record { answer = outcomeOf (lines b) (lines q) 4; places = outOf (lines b) (lines q) (9 ∷ 9 ∷ 9 ∷ 9 ∷ []) }
+
+none : Decision → Row
+none d = record { answer = Decided d 0; places = 0 ∷ 0 ∷ 0 ∷ 0 ∷ [] }
+
+one : Decision → ℕ → Row
+one d x = record { answer = Decided d 1; places = x ∷ 0 ∷ 0 ∷ 0 ∷ [] }
+
+table : run bookA [] ∷ run bookA (is60 ∷ []) ∷ run bookA (is40 ∷ []) ∷ run bookA (is50 ∷ []) ∷ run bookA (isMinus1 ∷ []) ∷ run bookA (is40 ∷ is40 ∷ [])
+    ∷ run denySet [] ∷ run permitSet [] ∷ run onlySet (is60 ∷ []) ∷ run twoSections [] ∷ run oneConjunction [] ∷ []
+    ≡ none Indeterminate ∷ one Permit 17 ∷ one Deny 18 ∷ one Permit 17 ∷ one Deny 18 ∷ none Indeterminate
+    ∷ none Deny ∷ none Indeterminate ∷ none Indeterminate ∷ none Indeterminate ∷ none NotApplicable ∷ []
+unfolding run none one lines bytes bookA denySet permitSet onlySet twoSections oneConjunction is40 is50 is60 isMinus1
+    outcomeOf outOf dutiesOf judgeOf judgeRecords judgeRequestOf judgeEntries placeOk brokenAt topOk childBroken childRule standsOk elderRank rankAt singleOf holdsConditions depthOf elderOf parentOf endOf
+    entryOk obligationsOf fieldOk obligationOk comparesOk sectionOk plainOk zeros finite typeAt typeOf kindAt kindOf firstFrom lastBelow countBelow allBelow
+    decides obliges childOf childrenOf ruleChildren ruleChild nodeOf ownOf handed combine ruleOf whenOf targetOf sectionsOf sectionOf conjunctionOf conditionOf conditionsOf comparisonOf matchOf matchIn gives keyType
+    bookOf treesIn treeAt obligationsIn rulesIn ruleAt whenIn conditionsIn conditionAt targetIn sectionAt conjunctionAt childrenAt rowOf comparisonAt matchAt testAt keyAt bagsOf bagFrom
+    forest growF spanIn spanOf bigOf functionOf holdsOf valueOf finiteOf signed64 andAll orAll targetAll
+table = refl

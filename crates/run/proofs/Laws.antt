@@ -1,0 +1,209 @@
+-- One law for each way in which a function of this crate returns, over plain variables. Assumes nothing.
+use Prim.Native.Nat.{ℕ, suc, _+_, _-_, _<_, _≤_}
+use mathlib.Core.Path.{_≡_, refl, sym, ap, _∙_}
+use mathlib.Core.Bool.{Bool, true, false}
+use mathlib.Core.List.{List, [], _∷_, _++_, append-assoc, append-nil}
+use lib.Dec.{ltb, leb}
+use lib.ListN.{length, getD, set, take, drop, replicate, length-append, length-take, length-drop, length-replicate, take-append-drop, replicate-append-replicate}
+use lib.Seq.{take-suc, drop-cons, set-at, take-at, drop-length, length-take-le}
+use native.Mathlib.Nat.{sub-zero, zero-add, add-zero, add-assoc}
+use native.Mathlib.Numerals.{add-one}
+use native.Mathlib.Omega.{arith}
+use borrow.Author.Tests.{lt-ltb, le-ltb, le-leb, lt-leb, leb-true}
+use Rattle.record.specs.Choose.{if, both}
+use Rattle.record.specs.Refusals.{noRoom, badRun}
+use Rattle.record.specs.declared.Refusal.{Refusal}
+use Rattle.meaning.specs.Meaning.{Bags}
+use Rattle.meaning.specs.Reading.{bagsOf}
+use Rattle.meaning.specs.declared.Decision.{Decision}
+use Rattle.meaning.specs.declared.Decision.the-variants.{Permit, Deny, NotApplicable, Indeterminate}
+use Rattle.judge.specs.Request.{judgeRequestOf}
+use Rattle.judge.specs.declared.JudgedRequest.{JudgedRequest}
+use Rattle.judge.specs.declared.JudgedRequest.the-variants as judged
+use Rattle.programme.specs.declared.Head.{Head}
+use Rattle.programme.specs.declared.State.{State}
+use Rattle.programme.specs.Layout.{unpackOf, allowed}
+use Rattle.programme.specs.Moves.{Ranged}
+use Rattle.programme.specs.Step.{mayStep, stepOf, steppedOf, isOver, countBy}
+use Rattle.programme.proofs.Coding.{ranged}
+use Rattle.run.specs.declared.kinds.Answer.{Answer}
+use Rattle.run.specs.declared.kinds.Answer.the-variants.{Running, Finished, Refused}
+use Rattle.run.specs.declared.kinds.Ran.{Ran}
+use Rattle.run.specs.declared.kinds.Tick.{Tick}
+use Rattle.run.specs.Run.{goOn, runOf}
+use Rattle.run.specs.Tick.{admitted, countOf, obligationsOf, answered, ranOf, tickOf}
+use Rattle.run.proofs.Runs.{runs-stay-allowed}
+
+-- a run, after k of its steps
+abbrev pub later : ℕ → Ran → Ran
+later k r = record { ok = r .ok; state = r .state; steps = k + r .steps }
+
+-- k of at most b steps have led from s to t
+abbrev pub Along : List ℕ → Bags → ℕ → State → ℕ → State → Type 0
+Along p g b s k t = runOf p g b s ≡ later k (runOf p g (b - k) t)
+
+pub run-start : (p : List ℕ) (g : Bags) (b : ℕ) (s : State) → Along p g b s 0 s
+run-start p g b s = rw (sub-zero, zero-add) refl
+
+pub run-out : (p : List ℕ) (g : Bags) (b k : ℕ) (s t : State) → b ≤ k → Along p g b s k t → runOf p g b s ≡ record { ok = true; state = t; steps = k }
+unfolding runOf
+run-out p g b k s t e i = let z : b - k ≡ 0 = omega arith in i ∙ rw (z, add-zero) refl
+
+module _ (p : List ℕ) (g : Bags) (b k : ℕ) (s t : State) (l : k < b) (i : Along p g b s k t) (o : Bool) (over : o ≡ unpackOf (t .head) .over) where
+  unroll : runOf p g b s ≡ later k (goOn o (mayStep p t) t (runOf p g (b - (k + 1)) (stepOf p g t)))
+  unfolding runOf isOver
+  unroll = let e : b - k ≡ suc (b - (k + 1)) = omega arith in i ∙ rw (e, over) refl
+
+  pub run-over : o ≡ true → runOf p g b s ≡ record { ok = true; state = t; steps = k }
+  run-over e = unroll ∙ rw (e, add-zero) refl
+
+  module _ (e : o ≡ false) (m : Bool) (u : State) (may : m ≡ mayStep p t) (went : u ≡ steppedOf p g t .state) where
+    pub run-bad : m ≡ false → runOf p g b s ≡ record { ok = false; state = u; steps = k }
+    unfolding steppedOf
+    run-bad f = unroll ∙ rw (went, e, ← may, f, add-zero) refl
+
+    pub run-more : m ≡ true → Along p g b s (k + 1) u
+    unfolding steppedOf
+    run-more f = unroll ∙ rw (went, e, ← may, f, add-assoc) refl
+
+-- the programme and the first number that a tick admits
+pub stacks-small : (head : ℕ) (h : Head) → h ≡ unpackOf head → h .cut + h .denies < 2048
+unfolding unpackOf
+stacks-small head h u = rw u (omega arith)
+
+module _ (n head : ℕ) where
+  pub admit-none : n ≡ 0 → false ≡ admitted n head
+  unfolding admitted
+  admit-none e = rw e refl
+
+  pub admit-long : 8008 < n → false ≡ admitted n head
+  unfolding admitted
+  admit-long e = let z : 0 < n = omega arith in rw (lt-ltb _ _ z, lt-leb _ _ e) refl
+
+  module _ (z : 0 < n) (l : n ≤ 8008) where
+    pub admit-high : 2305843009213693952 ≤ head → false ≡ admitted n head
+    unfolding admitted allowed
+    admit-high e = rw (lt-ltb _ _ z, le-leb _ _ l, le-ltb _ _ e) refl
+
+    module _ (s : head < 2305843009213693952) (h : Head) (u : h ≡ unpackOf head) where
+      pub admit-by : both (leb (h .depth) 16) (both (leb (h .nest) 14) (both (leb (h .permits) 1000) (leb (h .cut + h .denies) 1000))) ≡ admitted n head
+      unfolding admitted allowed
+      admit-by = rw (lt-ltb _ _ z, le-leb _ _ l, lt-ltb _ _ s, u) refl
+
+both-parts : (a b : Bool) → both a b ≡ true → (a ≡ true) × (b ≡ true)
+both-parts true b e = (refl, e)
+both-parts false b e = let z : _≡_ {A = ℕ} 0 1 = cc in absurd (omega arith)
+
+pub admit-parts : (n head : ℕ) (k : Bool) → k ≡ admitted n head → k ≡ true → (n ≤ 8008) × (allowed head ≡ true)
+unfolding admitted
+admit-parts n head k a e =
+    let r = both-parts (ltb 0 n) (both (leb n 8008) (allowed head)) (sym a ∙ e) in
+    let w = both-parts (leb n 8008) (allowed head) (r .1) in
+    (leb-true _ _ (w .0), w .1)
+
+-- an output that is filled from its first place on: the places before i hold xs
+put-next : (xs d : List ℕ) (i v : ℕ) → length xs ≡ i → i < length d → set (xs ++ drop i d) i v ≡ (xs ++ (v ∷ [])) ++ drop (i + 1) d
+put-next xs d i v e l =
+    rw (drop-cons d i 0 l, set-at xs (getD d i 0) (drop (suc i) d) v i e, add-one)
+    (sym (append-assoc xs (v ∷ []) (drop (suc i) d)))
+
+pub copy-next : (xs d out : List ℕ) (i : ℕ) → out ≡ take i xs ++ drop i d → i < length xs → i < length d → set out i (getD xs i 0) ≡ take (i + 1) xs ++ drop (i + 1) d
+copy-next xs d out i e l m =
+    let f : take (i + 1) xs ≡ take i xs ++ (getD xs i 0 ∷ []) = rw add-one (take-suc xs i 0 l) in
+    rw (e, f) (put-next (take i xs) d i (getD xs i 0) (length-take-le i xs (omega arith)) m)
+
+module _ (d : List ℕ) (from : ℕ) where
+  abbrev pub Cleared : List ℕ → ℕ → Type 0
+  Cleared out i = out ≡ (take from d ++ replicate (i - from) 0) ++ drop i d
+
+  pub clear-start : Cleared d from
+  clear-start =
+      let z : from - from ≡ 0 = omega arith in
+      rw (z, append-nil, take-append-drop) refl
+
+  pub clear-next : (out : List ℕ) (i : ℕ) → Cleared out i → from ≤ i → i < length d → Cleared (set out i 0) (i + 1)
+  clear-next out i e l m =
+      let k : i + 1 - from ≡ i - from + 1 = omega arith in
+      rw (e, k, ← replicate-append-replicate, ← append-assoc)
+      (put-next (take from d ++ replicate (i - from) 0) d i 0 (simp (length-append, length-take, length-replicate) (omega arith)) m)
+
+  pub clear-end : (out : List ℕ) (i : ℕ) → Cleared out i → i ≡ length d → out ≡ take from d ++ replicate (length d - from) 0
+  clear-end out i e l = e ∙ rw (l, drop-length, append-nil) refl
+
+pub filled : (xs d m out : List ℕ) (n : ℕ) → n ≤ length xs → n ≤ length d → m ≡ take n xs ++ drop n d → out ≡ take n m ++ replicate (length m - n) 0
+    → out ≡ take n xs ++ replicate (length d - n) 0
+filled xs d m out n k l e f =
+    let a : length (take n xs) ≡ n = length-take-le n xs k in
+    let b : length m ≡ length d = ap length e ∙ simp (length-append, length-take, length-drop) (omega arith) in
+    rw (f, b, e, take-at (take n xs) (drop n d) n a) refl
+
+-- what the first number says
+abbrev pub told : Bool → Head → Answer
+told b h = if b (Finished (h .reg) (countBy (h .reg) h)) Running
+
+module _ (h : Head) where
+  pub answer-running : h .over ≡ false → Running ≡ told (h .over) h
+  answer-running e = sym (ap (λ (b : Bool). told b h) e)
+
+  pub answer-finished : (n : ℕ) → n ≡ countBy (h .reg) h → h .over ≡ true → Finished (h .reg) n ≡ told (h .over) h
+  answer-finished n c e = rw c (sym (ap (λ (b : Bool). told b h) e))
+
+-- a tick
+abbrev pub refusal : Refusal → State → Tick
+refusal why s = record { state = s; steps = 0; answer = Refused why }
+
+module _ (p q : List ℕ) (s : State) (b : ℕ) (out : List ℕ) where
+  abbrev pub TickIs : Tick → List ℕ → Type 0
+  TickIs t o = (t ≡ tickOf p q s b out .tick) × (o ≡ tickOf p q s b out .out)
+
+  module _ (j : JudgedRequest) (a : j ≡ judgeRequestOf q) where
+    pub tick-request : (why : Refusal) (t : Tick) → j ≡ judged.Refused why → t ≡ refusal why s → TickIs t out
+    unfolding tickOf
+    tick-request why t e f = (rw (f, ← a, e) refl, rw (← a, e) refl)
+
+    module _ (n : ℕ) (e : j ≡ judged.Accepted n) where
+      pub tick-short : (why : Refusal) (t : Tick) → length out < 1000 → why ≡ noRoom → t ≡ refusal why s → TickIs t out
+      unfolding tickOf
+      tick-short why t l w f = (rw (f, w, ← a, e, lt-ltb _ _ l) refl, rw (← a, e, lt-ltb _ _ l) refl)
+
+      module _ (long : 1000 ≤ length out) (k : Bool) (m : k ≡ admitted (length p) (s .head)) where
+        pub tick-refused : (why : Refusal) (t : Tick) → k ≡ false → why ≡ badRun → t ≡ refusal why s → TickIs t out
+        unfolding tickOf
+        tick-refused why t z w f = (rw (f, w, ← a, e, le-ltb _ _ long, ← m, z) refl, rw (← a, e, le-ltb _ _ long, ← m, z) refl)
+
+        pub tick-ran : (r : Ran) → k ≡ true → r ≡ runOf p (bagsOf q) b s → tickOf p q s b out ≡ ranOf (r .ok) r s out
+        unfolding tickOf
+        tick-ran r z ran = rw (← a, e, le-ltb _ _ long, ← m, z, ran) refl
+
+  module _ (r : Ran) (ran : tickOf p q s b out ≡ ranOf (r .ok) r s out) where
+    pub tick-bad : (why : Refusal) (t : Tick) → r .ok ≡ false → why ≡ badRun → t ≡ refusal why s → TickIs t out
+    unfolding ranOf
+    tick-bad why t z w f = (rw (f, w, ran, z) refl, rw (ran, z) refl)
+
+    module _ (ok : r .ok ≡ true) (h : Head) (u : h ≡ unpackOf (r .state .head)) (y : Answer) (d : y ≡ told (h .over) h) (o : List ℕ) where
+      ended : (z : Bool) → h .over ≡ z → tickOf p q s b out ≡ answered z (r .state) (r .steps) out
+      unfolding ranOf isOver
+      ended z over = ran ∙ rw ok (ap (λ (v : Bool). answered v (r .state) (r .steps) out) (rw u at over))
+
+      pub tick-running : h .over ≡ false → o ≡ out → TickIs (record { state = r .state; steps = r .steps; answer = y }) o
+      unfolding answered
+      tick-running z f = (rw (d ∙ sym (answer-running h z), ended false z) refl, rw (f, ended false z) refl)
+
+      pub tick-finished : (x : ℕ) → x ≡ countBy (h .reg) h → h .over ≡ true → o ≡ take x (r .state .places) ++ replicate (length out - x) 0
+          → TickIs (record { state = r .state; steps = r .steps; answer = y }) o
+      unfolding answered countOf obligationsOf
+      tick-finished x c z f = (rw (d ∙ sym (answer-finished h x c z), ended true z, c, u) refl, rw (f, ended true z, c, u) refl)
+
+-- a run's end is a state that the layout allows, so its obligations are at most 1,000
+pub count-small : (p : List ℕ) (g : Bags) (b : ℕ) (s : State) (k : Bool) (r : Ran) (h : Head) (x : ℕ) → k ≡ admitted (length p) (s .head) → k ≡ true
+    → r ≡ runOf p g b s → h ≡ unpackOf (r .state .head) → x ≡ countBy (h .reg) h → x ≤ 1000
+count-small p g b s k r h x m z ran u c =
+    let w = admit-parts (length p) (s .head) k m z in
+    let d : allowed (r .state .head) ≡ true = rw ran (runs-stay-allowed p g b s (w .0) (w .1)) in
+    rw c (go (h .reg) (rw u (ranged (r .state .head) d)))
+  where
+    go : (y : Decision) → Ranged h → countBy y h ≤ 1000
+    go Permit l = l .permits
+    go Deny l = let i = l .stacks in omega arith
+    go NotApplicable l = omega arith
+    go Indeterminate l = omega arith
