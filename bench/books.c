@@ -215,6 +215,9 @@ unsigned roll(struct dice *dice, unsigned below)
     return (unsigned)((dice->seed * 0x2545F4914F6CDD1D >> 33) % below);
 }
 
+/* The keys that records ask for: 4 categories, 3 types, 2 identifiers. */
+enum { KEYS = 24 };
+
 /* A book in the making: the next record, and where the room for it ends. */
 struct making {
     struct pen pen;
@@ -267,7 +270,7 @@ static void random_section(struct making *m, unsigned category)
 static void random_target(struct making *m, unsigned depth)
 {
     for (unsigned category = 1; category <= 4 && depth + 3 <= DEPTH; category++)
-        if (room(m) >= 3 && roll(m->dice, 4) == 0)
+        if (room(m) >= 3 && roll(m->dice, 3) == 0)
             random_section(m, category);
 }
 
@@ -304,12 +307,14 @@ static void random_tree(struct making *m, unsigned depth, int fills)
     unsigned kind = fills || roll(m->dice, 2) == 0 ? 1 : 2, obligations = roll(m->dice, 3);
     put(&m->pen, kind, 1 + roll(m->dice, kind == 1 ? 4 : 3), 0, 0, 0, 0, 0);
     random_target(m, depth);
-    while (depth < DEPTH && room(m) > obligations && (fills || roll(m->dice, 4) != 0))
-        if (kind == 1)
+    for (unsigned children = 0; depth < DEPTH && room(m) > obligations; children++)
+        if (!fills && roll(m->dice, children == 0 ? 16 : 3) == 0)
+            break;
+        else if (kind == 1)
             random_tree(m, depth + 1, 0);
         else
             random_rule(m, depth + 1);
-    for (; obligations > 0 && room(m) > 0; obligations--)
+    for (; depth < DEPTH && obligations > 0 && room(m) > 0; obligations--)
         put(&m->pen, 8, 1 + roll(m->dice, 2), 1, 0, 0, roll(m->dice, 65536), 0);
     close_span(m, head);
 }
@@ -321,12 +326,15 @@ size_t random_book(uint8_t *book, size_t records, struct dice *dice)
     return (size_t)(m.pen.at - book);
 }
 
+/* One value for most keys, in any order; when all have had one, samples that no record asks for. */
 size_t random_request(uint8_t *request, size_t entries, struct dice *dice)
 {
     struct pen pen = { request };
-    for (size_t left = roll(dice, (unsigned)entries + 1); left > 0; left--) {
-        unsigned type = 1 + roll(dice, 3);
-        put_entry(&pen, 1 + roll(dice, 4), type, roll(dice, 2), random_value(dice, type));
+    unsigned key = roll(dice, KEYS), count = roll(dice, (unsigned)entries + 1);
+    for (unsigned k = 0; k < count; k++) {
+        unsigned its = roll(dice, 8) == 0 ? roll(dice, KEYS) : key, type = 1 + its / 4 % 3;
+        put_entry(&pen, 1 + its % 4, type, k < KEYS ? its / 12 : 2 + k, random_value(dice, type));
+        key = (key + 7) % KEYS;
     }
     return (size_t)(pen.at - request);
 }

@@ -7,7 +7,7 @@ use Rattle.record.specs.Choose.{if}
 use Rattle.record.specs.Forest.{forest, spanIn}
 use Rattle.meaning.specs.Logic.{some}
 use Rattle.meaning.specs.Policy.{Target, Rule, Obligation, OverRules, OverPolicies, Tree, policy, set, Trees}
-use Rattle.meaning.specs.Meaning.{Bags, targetOf, decisionOf, under, Child, said, owed, is, unsure, keep, applying, theOne, combine, stops, hands, handed, ownOf, binding, nodeOf, overRules, overPolicies, ruleOf, ruleChild, ruleChildren, childOf, childrenOf}
+use Rattle.meaning.specs.Meaning.{Bags, targetOf, decisionOf, Child, is, unsure, keep, applying, combine, stops, hands, handed, ownOf, binding, nodeOf, overRules, overPolicies, ruleOf, ruleChild, ruleChildren, childOf, childrenOf}
 use Rattle.meaning.specs.Reading.{isKind, choiceAt, targetIn, rulesIn, rulesBy, policiesBy, obligationsIn, treeAt, treesIn}
 use Rattle.meaning.specs.declared.Truth.{Truth}
 use Rattle.meaning.specs.declared.Truth.the-variants.{True, False, Unknown}

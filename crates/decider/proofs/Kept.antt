@@ -17,7 +17,7 @@ use Rattle.algorithm.specs.Fold.{isOnly, start, join, rankOf, result, settled, 
 use Rattle.algorithm.specs.declared.Rank.{Rank}
 use Rattle.algorithm.specs.declared.Rank.the-variants.{R0, R1, R2, R3, R4}
 use Rattle.algorithm.specs.declared.Acc.{Acc}
-use Rattle.algorithm.specs.declared.Acc.the-variants.{Ranked, Nobody, Pending, Two, One}
+use Rattle.algorithm.specs.declared.Acc.the-variants.{Ranked}
 use Rattle.algorithm.proofs.Walk.{takesOn, givesOn, walk, gave, result-right, gave-right}
 use Rattle.decider.specs.Inside.{keeps, upOf}
 

@@ -9,10 +9,10 @@ use lib.ListN.{length, set, length-set}
 use borrow.Author.Tests.{ne-eqb}
 use Rattle.record.specs.Choose.{if, both, either}
 use Rattle.record.specs.Bytes.{size, byteOf, bigOf}
-use Rattle.record.specs.Forest.{Forest, none, node, spanIn, forest}
+use Rattle.record.specs.Forest.{spanIn, forest}
 use Rattle.meaning.specs.Numbers.{numberOf}
 use Rattle.meaning.specs.Logic.{isUnknown, some}
-use Rattle.meaning.specs.Meaning.{Bags, targetOf, Child, said, owed, under, is, unsure, keep, applying, theOne, decisionOf, combine, ownOf, binding, overRules, overPolicies, ruleChildren}
+use Rattle.meaning.specs.Meaning.{Bags, targetOf, Child, said, owed, is, unsure, keep, applying, decisionOf, combine, ownOf, binding, overRules, overPolicies, ruleChildren}
 use Rattle.meaning.specs.Reading.{isKind, choiceAt, effectOf, targetIn, rulesIn, rulesBy, policiesBy, obligationAt, obligationsIn}
 use Rattle.meaning.specs.declared.Truth.{Truth}
 use Rattle.meaning.specs.declared.Truth.the-variants.{True, False, Unknown}

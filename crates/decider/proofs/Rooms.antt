@@ -1,13 +1,10 @@
 -- Room for obligations, and nesting, as a walk over the records finds them. Assumes nothing.
-use mathlib.Core.Path.{_≡_, refl, sym, ap, _∙_}
-use mathlib.Core.Bool.{Bool, true, false}
+use mathlib.Core.Path.{_≡_, refl}
 use mathlib.Core.List.{List}
 use Prim.Native.Nat.{ℕ, zero, suc, _+_, _-_, _≤_, _<_, max}
 use native.Mathlib.Omega.{arith}
 use native.Mathlib.Numerals.{add-one}
-use lib.Dec.{eqb}
 use Rattle.record.specs.Choose.{if}
-use Rattle.record.specs.Bytes.{byteOf}
 use Rattle.record.specs.Forest.{Forest, none, node, spanIn, forest}
 use Rattle.record.proofs.Forests.{forest-none, forest-more, span-pos, span-le}
 use Rattle.fields.specs.First.{countBelow}

@@ -2,12 +2,11 @@
 use mathlib.Core.Path.{_≡_, refl, sym, ap, _∙_}
 use mathlib.Core.Bool.{Bool, true, false}
 use mathlib.Core.List.{List, [], _∷_, _++_, append-nil, append-assoc}
-use Prim.Native.Nat.{ℕ, zero, suc, _+_, _-_, _≤_, _<_}
+use Prim.Native.Nat.{ℕ, suc, _+_, _-_, _≤_, _<_}
 use native.Mathlib.Omega.{arith}
 use native.Mathlib.Numerals.{add-one}
-use native.Mathlib.Nat.{sub-zero}
-use lib.ListN.{length, take, drop, set, getD, replicate, length-append, length-drop, length-set, length-replicate, take-append-drop, replicate-append-replicate}
-use lib.Seq.{take-take, take-at, drop-at, take-add, drop-drop, take-suc-set, length-take-le, getD-drop, drop-cons, set-at, paste, paste-zero, paste-suc, take-paste, drop-paste, length-paste, take-length, drop-length, take-set-le, append-snoc}
+use lib.ListN.{length, take, drop, set, getD, replicate, length-append, length-drop, length-replicate, take-append-drop, replicate-append-replicate}
+use lib.Seq.{take-take, take-at, drop-at, take-add, take-suc-set, length-take-le, getD-drop, drop-cons, set-at, paste, paste-zero, paste-suc, take-paste, drop-paste, drop-length}
 use Rattle.record.specs.Choose.{if}
 use Rattle.decider.specs.Places.{Holds, between}
 

@@ -1,8 +1,8 @@
 -- Document 01's examples P1 to P11, computed from the bytes of its hexadecimal lines: judged, decided, and what is left in four places.
 -- Assumes nothing.
 use mathlib.Core.Path.{_≡_, refl}
-use mathlib.Core.List.{List, [], _∷_, _++_}
-use Prim.Native.Nat.{ℕ, zero, suc, _+_, _/_, _%_}
+use mathlib.Core.List.{List, [], _∷_}
+use Prim.Native.Nat.{ℕ, zero, suc, _/_, _%_}
 use Rattle.record.specs.Bytes.{bigOf, spanOf}
 use Rattle.record.specs.Forest.{spanIn, growF, forest}
 use Rattle.value.specs.Value.{signed64, finiteOf, valueOf, functionOf, holdsOf}
@@ -19,7 +19,7 @@ use Rattle.judge.specs.Judge.{judgeRecords, judgeOf}
 use Rattle.judge.specs.Request.{judgeEntries, judgeRequestOf}
 use Rattle.decider.specs.Outcome.{dutiesOf, outcomeOf, outOf}
 use Rattle.decider.specs.declared.Outcome.{Outcome}
-use Rattle.decider.specs.declared.Outcome.the-variants.{Decided, Refused}
+use Rattle.decider.specs.declared.Outcome.the-variants.{Decided}
 
 -- the last n bytes of a number, before what follows; lines of 16 bytes
 bytes : ℕ → ℕ → List ℕ → List ℕ

@@ -1,5 +1,5 @@
 -- The whole call: judged in order, then decided. Assumes nothing.
-use mathlib.Core.Path.{_≡_, refl, sym, ap, _∙_}
+use mathlib.Core.Path.{_≡_, refl, sym, ap, fun-ext, _∙_}
 use mathlib.Core.Bool.{Bool, true, false}
 use mathlib.Core.List.{List, _++_}
 use Prim.Native.Nat.{ℕ, zero, suc, _+_, _-_, _*_, _/_, _≤_, _<_, min}
@@ -9,7 +9,6 @@ use lib.ListN.{length, take, replicate, length-append}
 use lib.Seq.{take-at}
 use borrow.Author.Tests.{lt-ltb, le-ltb, ltb-true, ltb-false}
 use Rattle.record.specs.Choose.{if}
-use Rattle.record.specs.Bytes.{size}
 use Rattle.record.specs.Forest.{forest}
 use Rattle.record.specs.Refusals.{noRoom}
 use Rattle.record.specs.declared.Refusal.{Refusal}
@@ -29,7 +28,7 @@ use Rattle.judge.specs.Exactly.{Breaks, empty, cut, many, field, place}
 use Rattle.judge.specs.ExactlyRequest.{BreaksRequest, cut as cut-request, many as many-entries, field as entry}
 use Rattle.judge.proofs.Exactly.{accepted-keeps, refused-breaks}
 use Rattle.judge.proofs.ExactlyRequest.{refused-request-breaks}
-use Rattle.decider.specs.Outcome.{dutiesOf, inOrder, outcomeOf, filled, outOf}
+use Rattle.decider.specs.Outcome.{dutiesOf, inOrder, outcomeOf, filled, outOf, CountsByBags}
 use Rattle.decider.specs.Inside.{treeFrom, childAt, roomOf, Ruled, Answered}
 use Rattle.decider.specs.declared.Outcome.{Outcome}
 use Rattle.decider.specs.declared.Outcome.the-variants.{Decided, Refused}
@@ -155,3 +154,17 @@ refused-line b q room {r} = go (judgeOf b) refl (judgeRequestOf q) refl
         at : (t : Bool) → if t (Refused noRoom) (Decided (decides (bagsOf q) (bookOf b)) (length (dutiesOf b q))) ≡ Refused r → r .line ≤ 1000
         at true e = same e (omega arith)
         at false e = let z : _≡_ {A = ℕ} 0 1 = cc in absurd (omega arith)
+
+-- a request counts only through its bags
+pub counts-by-bags : CountsByBags
+unfolding outcomeOf outOf dutiesOf
+counts-by-bags b q r l n m eq er h =
+    let g : bagsOf q ≡ bagsOf r = fun-ext h in
+    let o : inOrder (judgeOf b) (judgeRequestOf q) (length l) (Decided (decides (bagsOf q) (bookOf b)) (length (obliges (bagsOf q) (bookOf b))))
+    ≡ inOrder (judgeOf b) (judgeRequestOf r) (length l) (Decided (decides (bagsOf r) (bookOf b)) (length (obliges (bagsOf r) (bookOf b)))) =
+    rw (eq, er, g) (go (judgeOf b) (Decided (decides (bagsOf r) (bookOf b)) (length (obliges (bagsOf r) (bookOf b))))) in
+    (o, ap (λ z. filled z (obliges (bagsOf q) (bookOf b)) l) o ∙ rw g)
+  where
+    go : (j : Judged) (a : Outcome) → inOrder j (request.Accepted n) (length l) a ≡ inOrder j (request.Accepted m) (length l) a
+    go (book.Refused x) a = refl
+    go (book.Accepted x y) a = refl

@@ -1,6 +1,7 @@
 -- What a call to decide answers, and what it leaves in the lent places: document 01, "Refusals and their order" and "What is decided".
 -- Assumes nothing.
 use Prim.Native.Nat.{ℕ, _-_}
+use mathlib.Core.Path.{_≡_}
 use mathlib.Core.List.{List, _++_}
 use lib.Dec.{ltb}
 use lib.ListN.{length, replicate}
@@ -38,3 +39,9 @@ filled (Refused r) xs l = l
 
 unfoldable pub outOf : List ℕ → List ℕ → List ℕ → List ℕ
 outOf b q l = filled (outcomeOf b q (length l)) (dutiesOf b q) l
+
+-- a request counts only through its bags: two that are accepted and have the same bags get the same outcome, and leave the same in the places
+abbrev pub CountsByBags : Type 0
+CountsByBags =
+    (b q r l : List ℕ) (n m : ℕ) → judgeRequestOf q ≡ request.Accepted n → judgeRequestOf r ≡ request.Accepted m → ((key : ℕ) → bagsOf q key ≡ bagsOf r key)
+    → (outcomeOf b q (length l) ≡ outcomeOf b r (length l)) × (outOf b q l ≡ outOf b r l)

@@ -204,7 +204,15 @@ fn choose(book: &[u8], request: &[u8], from: usize, count: usize) -> Pick
 }
 
 // Record i with the span s as its parent sees it: its decision, and its obligations on top of n places. `depth` levels may lie below it.
-fn child(book: &[u8], request: &[u8], i: usize, s: usize, depth: usize, out: &mut [u16], n: usize) -> Ruling
+fn child(
+    book: &[u8],
+    request: &[u8],
+    i: usize,
+    s: usize,
+    depth: usize,
+    out: &mut [u16],
+    n: usize,
+) -> Ruling
     requires { ⌜ (0 < s) × ((i + s) * 16 ≤ length (now book)) × (n + roomOf (now book) (forest (now book) (i + 1) (s - 1)) ≤ length (now out))
         × (nestOf (forest (now book) (i + 1) (s - 1)) ≤ depth) ⌝ }
     ensures { λ r. ⌜ Ruled (now (out .entry)) n (said (childAt (now (book .entry)) (bagsOf (now (request .entry))) i s))
@@ -226,7 +234,15 @@ fn child(book: &[u8], request: &[u8], i: usize, s: usize, depth: usize, out: &mu
 }
 
 // The same where its target matches.
-fn body(book: &[u8], request: &[u8], i: usize, s: usize, depth: usize, out: &mut [u16], n: usize) -> Ruling
+fn body(
+    book: &[u8],
+    request: &[u8],
+    i: usize,
+    s: usize,
+    depth: usize,
+    out: &mut [u16],
+    n: usize,
+) -> Ruling
     requires { ⌜ (0 < s) × ((i + s) * 16 ≤ length (now book)) × (n + roomOf (now book) (forest (now book) (i + 1) (s - 1)) ≤ length (now out))
         × (nestOf (forest (now book) (i + 1) (s - 1)) ≤ depth) ⌝ }
     ensures { λ r. ⌜ Ruled (now (out .entry)) n (childAt (now (book .entry)) (bagsOf (now (request .entry))) i s .body)
@@ -243,7 +259,15 @@ fn body(book: &[u8], request: &[u8], i: usize, s: usize, depth: usize, out: &mut
 }
 
 // What its algorithm makes of its children, and what they hand up.
-fn gather(book: &[u8], request: &[u8], i: usize, s: usize, depth: usize, out: &mut [u16], n: usize) -> Ruling
+fn gather(
+    book: &[u8],
+    request: &[u8],
+    i: usize,
+    s: usize,
+    depth: usize,
+    out: &mut [u16],
+    n: usize,
+) -> Ruling
     requires { ⌜ (0 < s) × ((i + s) * 16 ≤ length (now book)) × (n + deepOf (now book) (forest (now book) (i + 1) (s - 1)) ≤ length (now out))
         × (nestOf (forest (now book) (i + 1) (s - 1)) ≤ depth) ⌝ }
     ensures { λ r. ⌜ Ruled (now (out .entry)) n (childAt (now (book .entry)) (bagsOf (now (request .entry))) i s .body)
@@ -278,7 +302,16 @@ fn gather(book: &[u8], request: &[u8], i: usize, s: usize, depth: usize, out: &m
 }
 
 // The algorithm's walk over the children that stand among `count` records from `from` on.
-fn walk(book: &[u8], request: &[u8], from: usize, count: usize, a: Algorithm, depth: usize, out: &mut [u16], n: usize) -> Ruling
+fn walk(
+    book: &[u8],
+    request: &[u8],
+    from: usize,
+    count: usize,
+    a: Algorithm,
+    depth: usize,
+    out: &mut [u16],
+    n: usize,
+) -> Ruling
     requires { ⌜ ((from + count) * 16 ≤ length (now book)) × (n + deepOf (now book) (forest (now book) from count) ≤ length (now out))
         × (nestOf (forest (now book) from count) ≤ depth) × (isOnly a ≡ false) ⌝ }
     ensures { λ r. ⌜ Ruled (now (out .entry)) n (combine a (childrenIn (now (book .entry)) (bagsOf (now (request .entry))) from count))

@@ -8,7 +8,7 @@ use lib.ListN.{length, take, drop, set, getD, replicate, length-append}
 use lib.Seq.{length-take-le, take-suc, drop-cons, append-snoc, set-at, take-at}
 use Rattle.record.specs.declared.Refusal.{Refusal}
 use Rattle.meaning.specs.declared.Decision.{Decision}
-use Rattle.decider.specs.Outcome.{dutiesOf, outcomeOf, filled, outOf}
+use Rattle.decider.specs.Outcome.{dutiesOf, outcomeOf, outOf}
 use Rattle.decider.specs.declared.Outcome.{Outcome}
 use Rattle.decider.specs.declared.Outcome.the-variants.{Decided, Refused}
 use Rattle.decider.proofs.Whole.{most-room, decided-puts}

@@ -12,3 +12,5 @@ pub mod Small
 pub mod Arrays
 pub mod Whole
 pub mod Packed
+pub mod Emit
+pub mod Unique

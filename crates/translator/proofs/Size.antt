@@ -204,7 +204,7 @@ l-sect (more c s) l x =
     let j = l-sect s l x in
     omega (arith, h, i, j)
 
-l-target : (t : Target) (x : ℕ) → length (codeTarget t x) ≡ 3 * recsTarget t
+pub l-target : (t : Target) (x : ℕ) → length (codeTarget t x) ≡ 3 * recsTarget t
 unfolding codeTarget recsTarget
 l-target [] x = refl
 l-target (s ∷ []) x = let h = l-sect s true x in omega (arith, h)

@@ -1,3 +1,5 @@
 pub mod Code
 pub mod Nesting
 pub mod Flat
+pub mod Emit
+pub mod Translate

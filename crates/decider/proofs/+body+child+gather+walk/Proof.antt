@@ -91,38 +91,11 @@ walk-calls t = (begin-reads.Asked, begin-reads.Learnt, span-in-reads.Asked, span
 body-gather-requires : (t : ℕ) → body-lts.Need-gather-requires (body-calls t) (body-at t) body.Post
 body-gather-requires t c κs = (omega arith, (c .before .before .before .before .pre .1 .0, c .before .before .before .before .pre .1 .1, omega (arith, c .before .before .before .before .pre .1 .2, rooms (c .before .before .before .before .args .book .now) (c .before .before .before .before .args .i + 1) (c .before .before .before .before .args .s - 1)), c .before .before .before .before .pre .1 .3))
 
-body-add-own : (t : ℕ) → body-lts.Need-add-own (body-calls t) (body-at t) body.Post
-body-add-own t c = search needs
-
-body-sub-own : (t : ℕ) → body-lts.Need-sub-own (body-calls t) (body-at t) body.Post
-body-sub-own t c = search needs
-
 body-own-requires : (t : ℕ) → body-lts.Need-own-requires (body-calls t) (body-at t) body.Post
 body-own-requires t c κs = (search needs, omega (arith, c .before .before .before .gather .ensures .puts .within, c .before .before .before .gather .kept .1 .1 .1 .1 .1 .0, c .before .before .before .before .before .before .before .before .pre .1 .2, rooms (c .before .before .before .before .before .before .before .before .args .book .now) (c .before .before .before .before .before .before .before .before .args .i + 1) (c .before .before .before .before .before .before .before .before .args .s - 1)))
 
-body-same-length : (t : ℕ) → body-lts.Need-same-length (body-calls t) (body-at t) body.Post
-body-same-length t c = search needs
-
 body-returns : (t : ℕ) → body-lts.Need-returns (body-calls t) (body-at t) body.Post
 body-returns t c = body-own _ _ _ _ (c .before .before .before .before .before .before .gather .ensures) (c .before .before .own .ensures)
-
-child-add-target : (t : ℕ) → child-lts.Need-add-target (child-calls t) (child-at t) child.Post
-child-add-target t c = search needs
-
-child-sub-target : (t : ℕ) → child-lts.Need-sub-target (child-calls t) (child-at t) child.Post
-child-sub-target t c = search needs
-
-child-target-requires : (t : ℕ) → child-lts.Need-target-requires (child-calls t) (child-at t) child.Post
-child-target-requires t c κs = search needs
-
-child-enum-told : (t : ℕ) → child-lts.Need-enum-told (child-calls t) (child-at t) child.Post
-child-enum-told t c = search needs
-
-child-enum-told-2 : (t : ℕ) → child-lts.Need-enum-told-2 (child-calls t) (child-at t) child.Post
-child-enum-told-2 t c = search needs
-
-child-enum-told-3 : (t : ℕ) → child-lts.Need-enum-told-3 (child-calls t) (child-at t) child.Post
-child-enum-told-3 t c = search needs
 
 child-body-requires : (t : ℕ) → child-lts.Need-body-requires (child-calls t) (child-at t) child.Post
 child-body-requires t c κs = (omega arith, (c .before .before .before .before .before .before .before .pre .1 .0, c .before .before .before .before .before .before .before .pre .1 .1, c .before .before .before .before .before .before .before .pre .1 .2, c .before .before .before .before .before .before .before .pre .1 .3))
@@ -133,53 +106,11 @@ child-returns t c = child-no _ _ _ _ (c .before .before .target .ensures) _ _ _ 
 child-returns-2 : (t : ℕ) → child-lts.Need-returns-2 (child-calls t) (child-at t) child.Post
 child-returns-2 t c = child-lost _ _ _ _ (c .before .before .target .ensures) _ _ _ (c .enum-told2 .given .1)
 
-child-same-length : (t : ℕ) → child-lts.Need-same-length (child-calls t) (child-at t) child.Post
-child-same-length t c = search needs
-
 child-returns-3 : (t : ℕ) → child-lts.Need-returns-3 (child-calls t) (child-at t) child.Post
 child-returns-3 t c = child-yes _ _ _ _ (c .before .before .before .before .before .before .target .ensures) (c .before .before .before .before .enum-told3 .given .1) (c .before .before .body .ensures)
 
-gather-byte-requires : (t : ℕ) → gather-lts.Need-byte-requires (gather-calls t) (gather-at t) gather.Post
-gather-byte-requires t c κs = search needs
-
-gather-byte-requires-2 : (t : ℕ) → gather-lts.Need-byte-requires-2 (gather-calls t) (gather-at t) gather.Post
-gather-byte-requires-2 t c κs = search needs
-
-gather-add-rules : (t : ℕ) → gather-lts.Need-add-rules (gather-calls t) (gather-at t) gather.Post
-gather-add-rules t c = search needs
-
-gather-sub-rules : (t : ℕ) → gather-lts.Need-sub-rules (gather-calls t) (gather-at t) gather.Post
-gather-sub-rules t c = search needs
-
-gather-rules-requires : (t : ℕ) → gather-lts.Need-rules-requires (gather-calls t) (gather-at t) gather.Post
-gather-rules-requires t c κs = search needs
-
 gather-returns : (t : ℕ) → gather-lts.Need-returns (gather-calls t) (gather-at t) gather.Post
 gather-returns t c = gather-rules _ _ _ _ (c .before .before .before .byte .ensures .0) (c .before .before .byte2 .ensures .0) _ _ _ (c .before .if1 .taken) (c .rules .ensures)
-
-gather-over-policies-requires : (t : ℕ) → gather-lts.Need-over-policies-requires (gather-calls t) (gather-at t) gather.Post
-gather-over-policies-requires t c κs = search needs
-
-gather-is-only-requires : (t : ℕ) → gather-lts.Need-is-only-requires (gather-calls t) (gather-at t) gather.Post
-gather-is-only-requires t c κs = search needs
-
-gather-add-choose : (t : ℕ) → gather-lts.Need-add-choose (gather-calls t) (gather-at t) gather.Post
-gather-add-choose t c = search needs
-
-gather-sub-choose : (t : ℕ) → gather-lts.Need-sub-choose (gather-calls t) (gather-at t) gather.Post
-gather-sub-choose t c = search needs
-
-gather-choose-requires : (t : ℕ) → gather-lts.Need-choose-requires (gather-calls t) (gather-at t) gather.Post
-gather-choose-requires t c κs = search needs
-
-gather-enum-told : (t : ℕ) → gather-lts.Need-enum-told (gather-calls t) (gather-at t) gather.Post
-gather-enum-told t c = search needs
-
-gather-enum-told-2 : (t : ℕ) → gather-lts.Need-enum-told-2 (gather-calls t) (gather-at t) gather.Post
-gather-enum-told-2 t c = search needs
-
-gather-enum-known-p : (t : ℕ) → gather-lts.Need-enum-known-p (gather-calls t) (gather-at t) gather.Post
-gather-enum-known-p t c = search needs
 
 gather-sub-body : (t : ℕ) → gather-lts.Need-sub-body (gather-calls t) (gather-at t) gather.Post
 gather-sub-body t c = let w = picked-one _ _ _ _ (c .before .before .before .choose .ensures) (c .before .p .given .1) in omega (arith, w .applies .nest, c .before .before .before .before .before .before .before .before .before .before .before .before .before .pre .1 .3)
@@ -193,23 +124,11 @@ gather-returns-2 t c = gather-nobody _ _ _ _ (c .before .before .before .before 
 gather-returns-3 : (t : ℕ) → gather-lts.Need-returns-3 (gather-calls t) (gather-at t) gather.Post
 gather-returns-3 t c = gather-many _ _ _ _ (c .before .before .before .before .before .before .before .before .byte .ensures .0) (c .before .before .before .before .before .before .before .byte2 .ensures .0) (c .before .before .before .before .before .before .if1 .left) (c .before .before .before .before .before .over-policies .ensures) (c .before .before .before .before .is-only .ensures) (c .before .before .before .if2 .taken) _ _ _ (c .before .before .choose .ensures) (c .enum-told2 .given .1)
 
-gather-same-length : (t : ℕ) → gather-lts.Need-same-length (gather-calls t) (gather-at t) gather.Post
-gather-same-length t c = search needs
-
 gather-returns-4 : (t : ℕ) → gather-lts.Need-returns-4 (gather-calls t) (gather-at t) gather.Post
 gather-returns-4 t c = let w = picked-one _ _ _ _ (c .before .before .before .before .before .before .before .choose .ensures) (c .before .before .before .before .before .p .given .1) in gather-one _ _ _ _ (c .before .before .before .before .before .before .before .before .before .before .before .before .before .byte .ensures .0) (c .before .before .before .before .before .before .before .before .before .before .before .before .byte2 .ensures .0) (c .before .before .before .before .before .before .before .before .before .before .before .if1 .left) (c .before .before .before .before .before .before .before .before .before .before .over-policies .ensures) (c .before .before .before .before .before .before .before .before .before .is-only .ensures) (c .before .before .before .before .before .before .before .before .if2 .taken) w (c .before .before .body .ensures)
 
-gather-add-walk : (t : ℕ) → gather-lts.Need-add-walk (gather-calls t) (gather-at t) gather.Post
-gather-add-walk t c = search needs
-
-gather-sub-walk : (t : ℕ) → gather-lts.Need-sub-walk (gather-calls t) (gather-at t) gather.Post
-gather-sub-walk t c = search needs
-
 gather-walk-requires : (t : ℕ) → gather-lts.Need-walk-requires (gather-calls t) (gather-at t) gather.Post
 gather-walk-requires t c κs = (search needs, (search needs, c .before .before .before .before .before .before .before .before .before .before .pre .1 .2, c .before .before .before .before .before .before .before .before .before .before .pre .1 .3, sym (c .before .before .is-only .ensures) ∙ c .before .if2 .left))
-
-gather-same-length-2 : (t : ℕ) → gather-lts.Need-same-length-2 (gather-calls t) (gather-at t) gather.Post
-gather-same-length-2 t c = search needs
 
 gather-returns-5 : (t : ℕ) → gather-lts.Need-returns-5 (gather-calls t) (gather-at t) gather.Post
 gather-returns-5 t c = gather-walk _ _ _ _ (c .before .before .before .before .before .before .before .before .before .byte .ensures .0) (c .before .before .before .before .before .before .before .before .byte2 .ensures .0) (c .before .before .before .before .before .before .before .if1 .left) (c .before .before .before .before .before .before .over-policies .ensures) (c .before .before .walk .ensures)
@@ -220,32 +139,11 @@ walk-Inv-loop book request from count a depth out₀ n i₀ left₀ acc₀ m₀ 
 abbrev walk-μ-loop : walk-lts.MeasureT-loop
 walk-μ-loop book request from count a depth out₀ n i₀ left₀ acc₀ m₀ out i left acc m = left
 
-walk-begin-requires : (t : ℕ) → walk-lts.Need-begin-requires (walk-calls t) (walk-at t) walk.Post walk-Inv-loop walk-μ-loop
-walk-begin-requires t c κs = search needs
-
 walk-loop-holds : (t : ℕ) → walk-lts.Need-loop-holds (walk-calls t) (walk-at t) walk.Post walk-Inv-loop walk-μ-loop
 walk-loop-holds t c = (refl, omega arith, walk-start _ _ _ _ _ _ _ (c .before .before .before .before .pre .1 .3) (c .begin .ensures), c .before .before .before .before .pre .1 .2)
 
-walk-span-in-requires : (t : ℕ) → walk-lts.Need-span-in-requires (walk-calls t) (walk-at t) walk.Post walk-Inv-loop walk-μ-loop
-walk-span-in-requires t c κs = search needs
-
-walk-is-party-requires : (t : ℕ) → walk-lts.Need-is-party-requires (walk-calls t) (walk-at t) walk.Post walk-Inv-loop walk-μ-loop
-walk-is-party-requires t c κs = search needs
-
-walk-add-i : (t : ℕ) → walk-lts.Need-add-i (walk-calls t) (walk-at t) walk.Post walk-Inv-loop walk-μ-loop
-walk-add-i t c = search needs
-
-walk-sub-left : (t : ℕ) → walk-lts.Need-sub-left (walk-calls t) (walk-at t) walk.Post walk-Inv-loop walk-μ-loop
-walk-sub-left t c = search needs
-
-walk-loop-less : (t : ℕ) → walk-lts.Need-loop-less (walk-calls t) (walk-at t) walk.Post walk-Inv-loop walk-μ-loop
-walk-loop-less t c = search needs
-
 walk-loop-again : (t : ℕ) → walk-lts.Need-loop-again (walk-calls t) (walk-at t) walk.Post walk-Inv-loop walk-μ-loop
 walk-loop-again t c = (omega arith, omega arith, walk-skip (c .before .before .before .before .before .before .before .before .before .pre .1 .3) (c .before .before .before .before .loop .inv .2) (c .before .before .before .loop-test .taken) (c .before .before .span-in .ensures .0) (c .before .is-party .ensures) (not-true _ (c .if1 .taken)), omega (arith, c .before .before .before .before .loop .inv .3, nest-rest _ _ _ (c .before .before .before .loop-test .taken) (c .before .before .span-in .ensures .0)))
-
-walk-add-next : (t : ℕ) → walk-lts.Need-add-next (walk-calls t) (walk-at t) walk.Post walk-Inv-loop walk-μ-loop
-walk-add-next t c = search needs
 
 walk-sub-child : (t : ℕ) → walk-lts.Need-sub-child (walk-calls t) (walk-at t) walk.Post walk-Inv-loop walk-μ-loop
 walk-sub-child t c = omega (arith, c .before .before .before .before .loop .inv .3, nest-kids _ _ _ (c .before .before .before .loop-test .taken) (c .before .before .span-in .ensures .0))
@@ -253,26 +151,8 @@ walk-sub-child t c = omega (arith, c .before .before .before .before .loop .inv 
 walk-child-requires : (t : ℕ) → walk-lts.Need-child-requires (walk-calls t) (walk-at t) walk.Post walk-Inv-loop walk-μ-loop
 walk-child-requires t c κs = (search needs, (search needs, search needs, omega (arith, c .before .before .before .before .before .loop .inv .2 .room, c .before .before .before .before .before .loop .inv .2 .kept, c .before .before .before .before .before .before .before .before .before .before .pre .1 .1, deep-is _ _ _ (c .before .before .before .before .loop-test .taken) (c .before .before .before .span-in .ensures .0)), omega (arith, c .before .before .before .before .before .loop .inv .3, nest-kids _ _ _ (c .before .before .before .before .loop-test .taken) (c .before .before .before .span-in .ensures .0))))
 
-walk-outcome-requires : (t : ℕ) → walk-lts.Need-outcome-requires (walk-calls t) (walk-at t) walk.Post walk-Inv-loop walk-μ-loop
-walk-outcome-requires t c κs = search needs
-
-walk-take-in-requires : (t : ℕ) → walk-lts.Need-take-in-requires (walk-calls t) (walk-at t) walk.Post walk-Inv-loop walk-μ-loop
-walk-take-in-requires t c κs = search needs
-
-walk-outcome-requires-2 : (t : ℕ) → walk-lts.Need-outcome-requires-2 (walk-calls t) (walk-at t) walk.Post walk-Inv-loop walk-μ-loop
-walk-outcome-requires-2 t c κs = search needs
-
-walk-stay-requires : (t : ℕ) → walk-lts.Need-stay-requires (walk-calls t) (walk-at t) walk.Post walk-Inv-loop walk-μ-loop
-walk-stay-requires t c κs = search needs
-
-walk-stay-requires-2 : (t : ℕ) → walk-lts.Need-stay-requires-2 (walk-calls t) (walk-at t) walk.Post walk-Inv-loop walk-μ-loop
-walk-stay-requires-2 t c κs = search needs
-
 walk-settle-requires : (t : ℕ) → walk-lts.Need-settle-requires (walk-calls t) (walk-at t) walk.Post walk-Inv-loop walk-μ-loop
 walk-settle-requires t c κs = (omega (arith, c .before .before .before .before .before .before .before .before .before .before .before .before .before .before .loop .inv .2 .holds .count), omega (arith, c .before .before .before .before .before .before .before .before .child .ensures .puts .holds .count), omega (arith, c .before .before .before .before .before .before .before .before .child .ensures .puts .within, c .before .before .before .before .before .before .before .before .before .before .before .before .before .before .loop .inv .2 .room, c .before .before .before .before .before .before .before .before .before .before .before .before .before .before .loop .inv .2 .kept, c .before .before .before .before .before .before .before .before .child .kept .1 .1 .1 .1 .1 .0, c .before .before .before .before .before .before .before .before .before .before .before .before .before .before .before .before .before .before .before .pre .1 .1, deep-is _ _ _ (c .before .before .before .before .before .before .before .before .before .before .before .before .before .loop-test .taken) (c .before .before .before .before .before .before .before .before .before .before .before .before .span-in .ensures .0)))
-
-walk-settles-requires : (t : ℕ) → walk-lts.Need-settles-requires (walk-calls t) (walk-at t) walk.Post walk-Inv-loop walk-μ-loop
-walk-settles-requires t c κs = search needs
 
 walk-same-length : (t : ℕ) → walk-lts.Need-same-length (walk-calls t) (walk-at t) walk.Post walk-Inv-loop walk-μ-loop
 walk-same-length t c = c .before .before .before .before .settle .kept .0 ∙ c .before .before .before .before .before .before .before .before .before .before .before .before .before .child .kept .1 .1 .1 .1 .1 .0 ∙ c .before .before .before .before .before .before .before .before .before .before .before .before .before .before .before .before .before .before .before .loop .inv .2 .kept
@@ -280,17 +160,8 @@ walk-same-length t c = c .before .before .before .before .settle .kept .0 ∙ c 
 walk-returns : (t : ℕ) → walk-lts.Need-returns (walk-calls t) (walk-at t) walk.Post walk-Inv-loop walk-μ-loop
 walk-returns t c = walk-stop (c .before .before .before .before .before .before .before .before .before .before .before .before .before .before .before .before .before .before .before .before .before .before .before .before .pre .1 .3) (c .before .before .before .before .before .before .before .before .before .before .before .before .before .before .before .before .before .before .before .loop .inv .2) (c .before .before .before .before .before .before .before .before .before .before .before .before .before .before .before .before .before .before .loop-test .taken) (c .before .before .before .before .before .before .before .before .before .before .before .before .before .before .before .before .before .span-in .ensures .0) (c .before .before .before .before .before .before .before .before .before .before .before .before .before .before .before .before .is-party .ensures) (not-false _ (c .before .before .before .before .before .before .before .before .before .before .before .before .before .before .before .if1 .left)) (c .before .before .before .before .before .before .before .before .before .before .before .before .before .child .ensures) (c .before .before .before .before .before .before .before .before .before .before .before .before .before .child .kept .1 .1 .1 .1 .1 .0) (c .before .before .before .before .before .before .before .before .before .before .outcome .ensures) (c .before .before .before .before .before .before .before .before .before .take-in .ensures) (c .before .before .before .before .before .before .before .before .outcome2 .ensures) (c .before .before .before .before .before .before .stay .ensures) (c .before .before .before .before .before .stay2 .ensures) (c .before .settles .ensures) (c .before .before .before .before .settle .ensures .0) (c .before .before .before .before .settle .ensures .1) (omega (arith, c .before .before .before .before .before .before .before .before .before .before .before .before .before .before .before .before .before .before .before .before .before .before .before .before .pre .1 .1)) (omega (arith, c .before .before .before .before .before .before .before .before .before .before .before .before .before .before .before .before .before .before .before .loop .inv .2 .room, c .before .before .before .before .before .before .before .before .before .before .before .before .before .before .before .before .before .before .before .loop .inv .2 .kept, c .before .before .before .before .before .before .before .before .before .before .before .before .before .before .before .before .before .before .before .before .before .before .before .before .pre .1 .1)) (c .if2 .taken)
 
-walk-sub-left-2 : (t : ℕ) → walk-lts.Need-sub-left-2 (walk-calls t) (walk-at t) walk.Post walk-Inv-loop walk-μ-loop
-walk-sub-left-2 t c = search needs
-
-walk-loop-less-2 : (t : ℕ) → walk-lts.Need-loop-less-2 (walk-calls t) (walk-at t) walk.Post walk-Inv-loop walk-μ-loop
-walk-loop-less-2 t c = search needs
-
 walk-loop-again-2 : (t : ℕ) → walk-lts.Need-loop-again-2 (walk-calls t) (walk-at t) walk.Post walk-Inv-loop walk-μ-loop
 walk-loop-again-2 t c = (omega (arith, c .before .before .before .before .before .before .before .before .before .before .before .before .before .before .before .before .before .before .before .loop .inv .0, c .before .before .before .before .before .before .before .before .before .before .before .before .before .before .before .before .before .span-in .ensures .1 .1), omega (arith, c .before .before .before .before .before .before .before .before .before .before .before .before .before .before .before .before .before .before .before .loop .inv .1), walk-turn (c .before .before .before .before .before .before .before .before .before .before .before .before .before .before .before .before .before .before .before .before .before .before .before .before .pre .1 .3) (c .before .before .before .before .before .before .before .before .before .before .before .before .before .before .before .before .before .before .before .loop .inv .2) (c .before .before .before .before .before .before .before .before .before .before .before .before .before .before .before .before .before .before .loop-test .taken) (c .before .before .before .before .before .before .before .before .before .before .before .before .before .before .before .before .before .span-in .ensures .0) (c .before .before .before .before .before .before .before .before .before .before .before .before .before .before .before .before .is-party .ensures) (not-false _ (c .before .before .before .before .before .before .before .before .before .before .before .before .before .before .before .if1 .left)) (c .before .before .before .before .before .before .before .before .before .before .before .before .before .child .ensures) (c .before .before .before .before .before .before .before .before .before .before .before .before .before .child .kept .1 .1 .1 .1 .1 .0) (c .before .before .before .before .before .before .before .before .before .before .outcome .ensures) (c .before .before .before .before .before .before .before .before .before .take-in .ensures) (c .before .before .before .before .before .before .before .before .outcome2 .ensures) (c .before .before .before .before .before .before .stay .ensures) (c .before .before .before .before .before .stay2 .ensures) (c .before .settles .ensures) (c .before .before .before .before .settle .ensures .0) (c .before .before .before .before .settle .ensures .1) (omega (arith, c .before .before .before .before .before .before .before .before .before .before .before .before .before .before .before .before .before .before .before .before .before .before .before .before .pre .1 .1)) (omega (arith, c .before .before .before .before .before .before .before .before .before .before .before .before .before .before .before .before .before .before .before .loop .inv .2 .room, c .before .before .before .before .before .before .before .before .before .before .before .before .before .before .before .before .before .before .before .loop .inv .2 .kept, c .before .before .before .before .before .before .before .before .before .before .before .before .before .before .before .before .before .before .before .before .before .before .before .before .pre .1 .1)) (c .before .before .before .before .settle .kept .0) (c .if2 .left), omega (arith, c .before .before .before .before .before .before .before .before .before .before .before .before .before .before .before .before .before .before .before .loop .inv .3, nest-rest _ _ _ (c .before .before .before .before .before .before .before .before .before .before .before .before .before .before .before .before .before .before .loop-test .taken) (c .before .before .before .before .before .before .before .before .before .before .before .before .before .before .before .before .before .span-in .ensures .0)))
-
-walk-outcome-requires-3 : (t : ℕ) → walk-lts.Need-outcome-requires-3 (walk-calls t) (walk-at t) walk.Post walk-Inv-loop walk-μ-loop
-walk-outcome-requires-3 t c κs = search needs
 
 walk-same-length-2 : (t : ℕ) → walk-lts.Need-same-length-2 (walk-calls t) (walk-at t) walk.Post walk-Inv-loop walk-μ-loop
 walk-same-length-2 t c = c .before .before .loop .inv .2 .kept
@@ -303,82 +174,82 @@ pub +body+child+gather+walk-spec : {M : Type 1} → statement M
     (body-at t)
     body.Post
     (body-gather-requires t)
-    (body-add-own t)
-    (body-sub-own t)
+    (λ c. search needs)
+    (λ c. search needs)
     (body-own-requires t)
-    (body-same-length t)
+    (λ c. search needs)
     (body-returns t))
     (λ t. child-lts.spec
     (target-reads.Asked, target-reads.Learnt, body-below t, body.Post)
     (child-at t)
     child.Post
-    (child-add-target t)
-    (child-sub-target t)
-    (child-target-requires t)
-    (child-enum-told t)
-    (child-enum-told-2 t)
-    (child-enum-told-3 t)
+    (λ c. search needs)
+    (λ c. search needs)
+    (λ c κs. search needs)
+    (λ c. search needs)
+    (λ c. search needs)
+    (λ c. search needs)
     (child-body-requires t)
     (child-returns t)
     (child-returns-2 t)
-    (child-same-length t)
+    (λ c. search needs)
     (child-returns-3 t))
     (λ t. gather-lts.spec (gather-calls t)
     (gather-at t)
     gather.Post
-    (gather-byte-requires t)
-    (gather-byte-requires-2 t)
-    (gather-add-rules t)
-    (gather-sub-rules t)
-    (gather-rules-requires t)
+    (λ c κs. search needs)
+    (λ c κs. search needs)
+    (λ c. search needs)
+    (λ c. search needs)
+    (λ c κs. search needs)
     (gather-returns t)
-    (gather-over-policies-requires t)
-    (gather-is-only-requires t)
-    (gather-add-choose t)
-    (gather-sub-choose t)
-    (gather-choose-requires t)
-    (gather-enum-told t)
-    (gather-enum-told-2 t)
-    (gather-enum-known-p t)
+    (λ c κs. search needs)
+    (λ c κs. search needs)
+    (λ c. search needs)
+    (λ c. search needs)
+    (λ c κs. search needs)
+    (λ c. search needs)
+    (λ c. search needs)
+    (λ c. search needs)
     (gather-sub-body t)
     (gather-body-requires t)
     (gather-returns-2 t)
     (gather-returns-3 t)
-    (gather-same-length t)
+    (λ c. search needs)
     (gather-returns-4 t)
-    (gather-add-walk t)
-    (gather-sub-walk t)
+    (λ c. search needs)
+    (λ c. search needs)
     (gather-walk-requires t)
-    (gather-same-length-2 t)
+    (λ c. search needs)
     (gather-returns-5 t))
     λ t. walk-lts.spec (walk-calls t)
     (walk-at t)
     walk.Post
     walk-Inv-loop
     walk-μ-loop
-    (walk-begin-requires t)
+    (λ c κs. search needs)
     (walk-loop-holds t)
-    (walk-span-in-requires t)
-    (walk-is-party-requires t)
-    (walk-add-i t)
-    (walk-sub-left t)
-    (walk-loop-less t)
+    (λ c κs. search needs)
+    (λ c κs. search needs)
+    (λ c. search needs)
+    (λ c. search needs)
+    (λ c. search needs)
     (walk-loop-again t)
-    (walk-add-next t)
+    (λ c. search needs)
     (walk-sub-child t)
     (walk-child-requires t)
-    (walk-outcome-requires t)
-    (walk-take-in-requires t)
-    (walk-outcome-requires-2 t)
-    (walk-stay-requires t)
-    (walk-stay-requires-2 t)
+    (λ c κs. search needs)
+    (λ c κs. search needs)
+    (λ c κs. search needs)
+    (λ c κs. search needs)
+    (λ c κs. search needs)
     (walk-settle-requires t)
-    (walk-settles-requires t)
+    (λ c κs. search needs)
     (walk-same-length t)
     (walk-returns t)
-    (walk-sub-left-2 t)
-    (walk-loop-less-2 t)
+    (λ c. search needs)
+    (λ c. search needs)
     (walk-loop-again-2 t)
-    (walk-outcome-requires-3 t)
+    (λ c κs. search needs)
     (walk-same-length-2 t)
     (walk-returns-2 t)

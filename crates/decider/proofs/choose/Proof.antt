@@ -1,18 +1,11 @@
 use borrow.Author.Needs.{needs}
 use native.Mathlib.Omega.{arith}
-use mathlib.Core.Path.{_≡_, sym, _∙_}
+use mathlib.Core.Path.{sym, _∙_}
 use borrow.Author.Tests.{not-true, not-false}
 use Rattle.meaning.specs.Reading.{bagsOf}
 use Rattle.decider.proofs.Laws.{Seeking, seek-start, seek-skip, seek-turn, seek-stop, seek-end}
 use Rattle.decider.proofs.choose.Statement.{statement}
 use Rattle.decider.proofs.choose.Tie as tie
-use Rattle.decider.proofs.choose.Reads as reads
-use Rattle.decider.proofs.choose.Lts as lts
-use Rattle.decider.proofs.is_many.Reads as is-many-reads
-use Rattle.decider.proofs.is_party.Reads as is-party-reads
-use Rattle.decider.proofs.note.Reads as note-reads
-use Rattle.record.proofs.span_in.Reads as span-in-reads
-use Rattle.rules.proofs.target.Reads as target-reads
 
 abbrev Inv-loop : tie.InvT-loop
 Inv-loop book request from count i₀ left₀ p₀ i left p = Seeking book (bagsOf request) from count i left p
@@ -32,41 +25,20 @@ is-party-requires c κs = let w = c .before .before .loop .inv in omega (arith, 
 add-i : tie.Need-add-i Inv-loop μ-loop
 add-i c = let w = c .before .before .before .before .loop .inv in omega (arith, w .place, w .fits)
 
-sub-left : tie.Need-sub-left Inv-loop μ-loop
-sub-left c = search needs
-
-loop-less : tie.Need-loop-less Inv-loop μ-loop
-loop-less c = search needs
-
 loop-again : tie.Need-loop-again Inv-loop μ-loop
 loop-again c = seek-skip (c .before .before .before .before .loop .inv) (c .before .before .before .loop-test .taken) (c .before .before .span-in .ensures .0) (c .before .before .span-in .ensures .1 .0) (c .before .before .span-in .ensures .1 .1) (c .before .is-party .ensures) (not-true _ (c .if1 .taken))
 
 add-target : tie.Need-add-target Inv-loop μ-loop
 add-target c = let w = c .before .before .before .before .loop .inv in omega (arith, w .place, w .fits)
 
-sub-target : tie.Need-sub-target Inv-loop μ-loop
-sub-target c = search needs
-
 target-requires : tie.Need-target-requires Inv-loop μ-loop
 target-requires c κs = let w = c .before .before .before .before .loop .inv in omega (arith, w .place, w .fits)
-
-note-requires : tie.Need-note-requires Inv-loop μ-loop
-note-requires c κs = search needs
-
-is-many-requires : tie.Need-is-many-requires Inv-loop μ-loop
-is-many-requires c κs = search needs
 
 returns : tie.Need-returns Inv-loop μ-loop
 returns c = seek-stop (c .before .before .before .before .before .before .before .before .loop .inv) (c .before .before .before .before .before .before .before .loop-test .taken) (c .before .before .before .before .before .before .span-in .ensures .0) (c .before .before .before .before .before .before .span-in .ensures .1 .0) (c .before .before .before .before .before .before .span-in .ensures .1 .1) (c .before .before .before .before .before .is-party .ensures) (not-false _ (c .before .before .before .before .if1 .left)) (c .before .before .before .target .ensures) (c .before .before .note .ensures) (sym (c .before .is-many .ensures) ∙ c .if2 .taken)
 
 add-i-2 : tie.Need-add-i-2 Inv-loop μ-loop
 add-i-2 c = let w = c .before .before .before .before .before .before .before .before .loop .inv in omega (arith, w .place, w .fits)
-
-sub-left-2 : tie.Need-sub-left-2 Inv-loop μ-loop
-sub-left-2 c = search needs
-
-loop-less-2 : tie.Need-loop-less-2 Inv-loop μ-loop
-loop-less-2 c = search needs
 
 loop-again-2 : tie.Need-loop-again-2 Inv-loop μ-loop
 loop-again-2 c = seek-turn (c .before .before .before .before .before .before .before .before .loop .inv) (c .before .before .before .before .before .before .before .loop-test .taken) (c .before .before .before .before .before .before .span-in .ensures .0) (c .before .before .before .before .before .before .span-in .ensures .1 .0) (c .before .before .before .before .before .before .span-in .ensures .1 .1) (c .before .before .before .before .before .is-party .ensures) (not-false _ (c .before .before .before .before .if1 .left)) (c .before .before .before .target .ensures) (c .before .before .note .ensures)
@@ -84,17 +56,17 @@ choose-spec =
     span-in-requires
     is-party-requires
     add-i
-    sub-left
-    loop-less
+    (λ c. search needs)
+    (λ c. search needs)
     loop-again
     add-target
-    sub-target
+    (λ c. search needs)
     target-requires
-    note-requires
-    is-many-requires
+    (λ c κs. search needs)
+    (λ c κs. search needs)
     returns
     add-i-2
-    sub-left-2
-    loop-less-2
+    (λ c. search needs)
+    (λ c. search needs)
     loop-again-2
     returns-2)

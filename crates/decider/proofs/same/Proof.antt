@@ -1,4 +1,3 @@
-use mathlib.Core.Path.{_≡_}
 use borrow.Author.Needs.{needs}
 use Rattle.decider.proofs.Laws.{same-number}
 use Rattle.decider.proofs.same.Statement.{statement}

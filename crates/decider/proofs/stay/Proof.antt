@@ -1,4 +1,3 @@
-use mathlib.Core.Path.{_≡_}
 use borrow.Author.Needs.{needs}
 use Rattle.decider.proofs.stay.Statement.{statement}
 use Rattle.decider.proofs.stay.Tie as tie

@@ -1,14 +1,12 @@
 use Rattle.decider.proofs.Stack.{clear-none, clear-more, clear-done}
 use lib.ListN.{length, drop, take, replicate, length-set}
-use Prim.Native.Nat.{_+_, _-_, _<_, _≤_}
+use Prim.Native.Nat.{_+_, _-_, _≤_}
 use mathlib.Core.List.{_++_}
-use mathlib.Core.Path.{_≡_, refl, sym, ap, _∙_}
+use mathlib.Core.Path.{_≡_, refl}
 use native.Mathlib.Omega.{arith}
 use borrow.Author.Needs.{needs}
 use Rattle.host.proofs.clear.Statement.{statement}
 use Rattle.host.proofs.clear.Tie as tie
-use Rattle.host.proofs.clear.Reads as reads
-use Rattle.host.proofs.clear.Lts as lts
 
 abbrev Inv-loop : tie.InvT-loop
 Inv-loop out₀ n k₀ out k = (n ≤ k) × (k ≤ length out₀) × (length out ≡ length out₀) × (out ≡ take n out₀ ++ (replicate (k - n) 0 ++ drop k out₀))

@@ -1,29 +1,13 @@
 use native.Mathlib.Omega.{arith}
-use mathlib.Core.Path.{_≡_, sym, _∙_}
+use mathlib.Core.Path.{sym, _∙_}
 use Rattle.host.proofs.Laws.{host-refused, host-fits, host-decided}
 use Rattle.decider.proofs.Whole.{refused-line}
 use borrow.Author.Needs.{needs}
 use Rattle.host.proofs.decide_in.Statement.{statement}
 use Rattle.host.proofs.decide_in.Tie as tie
-use Rattle.host.proofs.decide_in.Reads as reads
-use Rattle.host.proofs.decide_in.Lts as lts
-use Rattle.decider.proofs.decide.Reads as decide-reads
-use Rattle.host.proofs.clear.Reads as clear-reads
-use Rattle.host.proofs.decided.Reads as decided-reads
-use Rattle.host.proofs.put_pairs.Reads as put-pairs-reads
-use Rattle.host.proofs.refused.Reads as refused-reads
-
-decide-requires : tie.Need-decide-requires
-decide-requires c κs = search needs
-
-enum-known-r : tie.Need-enum-known-r
-enum-known-r c = search needs
 
 refused-requires : tie.Need-refused-requires
 refused-requires c κs = refused-line _ _ _ (sym (c .before .before .before .before .before .decide .ensures .0) ∙ c .before .r .given .1)
-
-enum-known-d : tie.Need-enum-known-d
-enum-known-d c = search needs
 
 put-pairs-requires : tie.Need-put-pairs-requires
 put-pairs-requires c κs = let w = host-fits (c .before .before .before .before .before .before .before .before .before .before .before .before .before .args .book .now) (c .before .before .before .before .before .before .before .before .before .before .before .before .before .args .request .now) (c .before .before .before .before .before .before .before .before .before .before .before .before .before .args .places .now) (c .before .before .before .before .before .before .before .before .before .before .before .before .before .args .out .now) (c .before .before .before .before .before .before .before .before .before .before .before .before .before .pre) (c .before .before .before .before .before .before .before .decide .ensures .0) (c .before .before .before .d .given .1) (c .before .before .before .before .before .before .before .decide .ensures .1) (c .before .before .before .before .before .before .before .decide .kept .1 .1 .0) in (w .0, w .1)
@@ -37,17 +21,8 @@ clear-requires c κs = let w = host-fits (c .before .before .before .before .bef
 decided-requires : tie.Need-decided-requires
 decided-requires c κs = let w = host-fits (c .before .before .before .before .before .before .before .before .before .before .before .before .before .before .before .before .before .before .before .before .args .book .now) (c .before .before .before .before .before .before .before .before .before .before .before .before .before .before .before .before .before .before .before .before .args .request .now) (c .before .before .before .before .before .before .before .before .before .before .before .before .before .before .before .before .before .before .before .before .args .places .now) (c .before .before .before .before .before .before .before .before .before .before .before .before .before .before .before .before .before .before .before .before .args .out .now) (c .before .before .before .before .before .before .before .before .before .before .before .before .before .before .before .before .before .before .before .before .pre) (c .before .before .before .before .before .before .before .before .before .before .before .before .before .before .decide .ensures .0) (c .before .before .before .before .before .before .before .before .before .before .d .given .1) (c .before .before .before .before .before .before .before .before .before .before .before .before .before .before .decide .ensures .1) (c .before .before .before .before .before .before .before .before .before .before .before .before .before .before .decide .kept .1 .1 .0) in w .2
 
-same-length : tie.Need-same-length
-same-length c = search needs
-
 returns : tie.Need-returns
 returns c = host-refused (c .before .before .before .before .before .before .before .before .before .before .before .before .args .book .now) (c .before .before .before .before .before .before .before .before .before .before .before .before .args .request .now) (c .before .before .before .before .before .before .before .before .before .before .before .before .args .places .now) (c .before .before .before .before .before .before .before .before .before .before .before .before .args .out .now) (c .before .before .before .before .before .before .before .before .before .before .before .before .pre) (c .before .before .before .before .before .before .decide .ensures .0) (c .before .before .r .given .1) (c .refused .ensures)
-
-same-length-2 : tie.Need-same-length-2
-same-length-2 c = search needs
-
-same-length-3 : tie.Need-same-length-3
-same-length-3 c = search needs
 
 returns-2 : tie.Need-returns-2
 returns-2 c = host-decided (c .before .before .before .before .before .before .before .before .before .before .before .before .before .before .before .before .before .before .before .before .before .args .book .now) (c .before .before .before .before .before .before .before .before .before .before .before .before .before .before .before .before .before .before .before .before .before .args .request .now) (c .before .before .before .before .before .before .before .before .before .before .before .before .before .before .before .before .before .before .before .before .before .args .places .now) (c .before .before .before .before .before .before .before .before .before .before .before .before .before .before .before .before .before .before .before .before .before .args .out .now) (c .before .before .before .before .before .before .before .before .before .before .before .before .before .before .before .before .before .before .before .before .before .pre) (c .before .before .before .before .before .before .before .before .before .before .before .before .before .before .before .decide .ensures .0) (c .before .before .before .before .before .before .before .before .before .before .before .d .given .1) (c .before .before .before .before .before .before .before .before .before .before .before .before .before .before .before .decide .ensures .1) (c .before .before .before .before .before .before .before .before .before .before .before .before .before .before .before .decide .kept .1 .1 .0) (c .before .before .before .before .before .before .before .put-pairs .ensures) (c .before .before .before .before .before .before .before .put-pairs .kept .1 .1 .0) (c .before .before .before .clear .ensures) (c .decided .ensures)
@@ -56,16 +31,16 @@ pub decide-in-spec : {M : Type 1} → statement M
 decide-in-spec =
     tie.close
     (tie.spec
-    decide-requires
-    enum-known-r
+    (λ c κs. search needs)
+    (λ c. search needs)
     refused-requires
-    enum-known-d
+    (λ c. search needs)
     put-pairs-requires
     mul-clear
     clear-requires
     decided-requires
-    same-length
+    (λ c. search needs)
     returns
-    same-length-2
-    same-length-3
+    (λ c. search needs)
+    (λ c. search needs)
     returns-2)

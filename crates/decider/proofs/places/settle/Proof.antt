@@ -3,9 +3,6 @@ use native.Mathlib.Omega.{arith}
 use borrow.Author.Needs.{needs}
 use Rattle.decider.proofs.places.settle.Statement.{statement}
 use Rattle.decider.proofs.places.settle.Tie as tie
-use Rattle.decider.proofs.places.settle.Reads as reads
-use Rattle.decider.proofs.places.settle.Lts as lts
-use Rattle.decider.proofs.places.shift.Reads as shift-reads
 
 returns : tie.Need-returns
 returns c = rw (c .before .if1 .taken, c .if2 .taken) (keep-both _ _ _ (c .before .before .before .pre .1) (c .before .before .before .pre .2), omega arith)

@@ -1,14 +1,12 @@
 use Rattle.decider.proofs.Stack.{shift-none, shift-more, shift-done}
 use lib.Seq.{paste}
 use lib.ListN.{length, drop, length-set}
-use Prim.Native.Nat.{_+_, _-_, _<_, _≤_}
-use mathlib.Core.Path.{_≡_, refl, sym, ap, _∙_}
+use Prim.Native.Nat.{_-_, _≤_}
+use mathlib.Core.Path.{_≡_, refl}
 use native.Mathlib.Omega.{arith}
 use borrow.Author.Needs.{needs}
 use Rattle.decider.proofs.places.shift.Statement.{statement}
 use Rattle.decider.proofs.places.shift.Tie as tie
-use Rattle.decider.proofs.places.shift.Reads as reads
-use Rattle.decider.proofs.places.shift.Lts as lts
 
 abbrev Inv-loop : tie.InvT-loop
 Inv-loop out₀ at m e total k₀ out k = (total ≡ e - m) × (k ≤ total) × (length out ≡ length out₀) × (out ≡ paste out₀ at (drop m out₀) k)

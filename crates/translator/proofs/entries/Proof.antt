@@ -1,0 +1,12 @@
+use Rattle.translator.proofs.Emit.{programme-short}
+use borrow.Author.Needs.{needs}
+use Rattle.translator.proofs.entries.Statement.{statement}
+use Rattle.translator.proofs.entries.Tie as tie
+
+programme-requires : tie.Need-programme-requires
+programme-requires c κs = (search needs, search needs, search needs, programme-short _ _ (c .before .before .pre .2) (c .before .before .pre .0), search needs)
+
+pub entries-spec : {M : Type 1} → statement M
+entries-spec =
+    tie.close
+    (tie.spec (λ c. search needs) (λ c. search needs) (λ c. search needs) programme-requires (λ c. search needs) (λ c. search needs))
