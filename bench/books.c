@@ -300,18 +300,19 @@ static void random_rule(struct making *m, unsigned depth)
     close_span(m, head);
 }
 
-/* A policy or set at this depth; one that fills takes all the room but for its obligations. */
-static void random_tree(struct making *m, unsigned depth, int fills)
+/* A policy or set at this depth. The root is a set, without a target most of the time, and takes all the room. */
+static void random_tree(struct making *m, unsigned depth)
 {
     uint8_t *head = m->pen.at;
-    unsigned kind = fills || roll(m->dice, 2) == 0 ? 1 : 2, obligations = roll(m->dice, 3);
+    unsigned kind = depth == 1 || roll(m->dice, 2) == 0 ? 1 : 2, obligations = roll(m->dice, 3);
     put(&m->pen, kind, 1 + roll(m->dice, kind == 1 ? 4 : 3), 0, 0, 0, 0, 0);
-    random_target(m, depth);
+    if (depth > 1 || roll(m->dice, 4) == 0)
+        random_target(m, depth);
     for (unsigned children = 0; depth < DEPTH && room(m) > obligations; children++)
-        if (!fills && roll(m->dice, children == 0 ? 16 : 3) == 0)
+        if (depth > 1 && roll(m->dice, children == 0 ? 16 : 3) == 0)
             break;
         else if (kind == 1)
-            random_tree(m, depth + 1, 0);
+            random_tree(m, depth + 1);
         else
             random_rule(m, depth + 1);
     for (; depth < DEPTH && obligations > 0 && room(m) > 0; obligations--)
@@ -322,7 +323,7 @@ static void random_tree(struct making *m, unsigned depth, int fills)
 size_t random_book(uint8_t *book, size_t records, struct dice *dice)
 {
     struct making m = { { book }, book + records * RECORD, dice };
-    random_tree(&m, 1, 1);
+    random_tree(&m, 1);
     return (size_t)(m.pen.at - book);
 }
 

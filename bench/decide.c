@@ -108,7 +108,7 @@ static size_t deepest(struct input *in, uint8_t *book, side *of)
 
 static void stack(struct input in, uint8_t *book, uint8_t *request)
 {
-    in.name = "16 levels";
+    in.name = "decide";
     in.request_len = bytes_of_file("examples/a/40.hex", request, MOST_REQUEST);
     double of_plain = (double)deepest(&in, book, plain);
     if (proved) {

@@ -4,9 +4,26 @@
 use crate::refusal::{Part, Refusal};
 use crate::subject::{Field, Rig, Tick, TickAnswer};
 
-/// The fields of the state's published layout, with the largest value that each may have.
+/// The fields of the first number, with the largest value that the published layout allows each by itself.
 #[cfg_attr(not(has_rig), allow(dead_code))]
-pub const FIELDS: [Field; 0] = [];
+pub const FIELDS: [Field; 12] = [
+    Field { number: 0, low: 0, width: 13, most: 8191 },  // at
+    Field { number: 0, low: 13, width: 5, most: 16 },    // depth
+    Field { number: 0, low: 18, width: 4, most: 14 },    // nest
+    Field { number: 0, low: 22, width: 10, most: 1000 }, // permits
+    Field { number: 0, low: 32, width: 10, most: 1000 }, // denies
+    Field { number: 0, low: 42, width: 10, most: 1000 }, // cut
+    Field { number: 0, low: 52, width: 2, most: 3 },     // register
+    Field { number: 0, low: 54, width: 2, most: 3 },     // conjunction
+    Field { number: 0, low: 56, width: 2, most: 3 },     // section
+    Field { number: 0, low: 58, width: 2, most: 3 },     // target
+    Field { number: 0, low: 60, width: 1, most: 1 },     // over
+    Field { number: 0, low: 61, width: 3, most: 0 },     // unused
+];
+
+/// A state is 33 numbers; behind them, one number each, stand the obligation places.
+#[cfg_attr(not(has_rig), allow(dead_code))]
+const NUMBERS: usize = 33;
 
 /// Unpacks the answer of a tick: a refusal as the C host packs it; else the steps in the high 32 bits
 /// and below them 0 while running, or decision + 256 x count.
@@ -32,19 +49,21 @@ pub fn unpack(packed: u64) -> Tick {
 
 #[cfg(has_rig)]
 mod calls {
-    use super::{unpack, FIELDS};
+    use super::{unpack, FIELDS, NUMBERS};
     use crate::subject::{Field, Rig, Tick};
 
     extern "C" {
         fn bachumoi_translate(book: *const u8, book_len: usize, programme: *mut u64, programme_len: usize) -> u64;
-        fn bachumoi_fresh(state: *mut u64, state_len: usize) -> u64;
+        fn bachumoi_fresh(numbers: *mut u64, numbers_len: usize, places: *mut u16, places_len: usize) -> u64;
         fn bachumoi_tick(
             programme: *const u64,
             programme_len: usize,
             request: *const u8,
             request_len: usize,
-            state: *mut u64,
-            state_len: usize,
+            numbers: *mut u64,
+            numbers_len: usize,
+            places: *mut u16,
+            places_len: usize,
             budget: u64,
             out: *mut u16,
             out_len: usize,
@@ -53,29 +72,47 @@ mod calls {
 
     pub struct Linked;
 
+    /// Calls with the numbers and the places of a state apart; a place that the call leaves keeps all its bits.
+    fn apart<T>(state: &mut [u64], call: impl FnOnce(&mut [u64], &mut [u16]) -> T) -> T {
+        let (numbers, rest) = state.split_at_mut(state.len().min(NUMBERS));
+        let before: Vec<u16> = rest.iter().map(|&place| place as u16).collect();
+        let mut places = before.clone();
+        let result = call(numbers, &mut places);
+        for (i, place) in rest.iter_mut().enumerate() {
+            if places[i] != before[i] {
+                *place = places[i].into();
+            }
+        }
+        result
+    }
+
     impl Rig for Linked {
         fn translate(&self, book: &[u8], programme: &mut [u64]) -> u64 {
             unsafe { bachumoi_translate(book.as_ptr(), book.len(), programme.as_mut_ptr(), programme.len()) }
         }
 
         fn fresh(&self, state: &mut [u64]) -> u64 {
-            unsafe { bachumoi_fresh(state.as_mut_ptr(), state.len()) }
+            apart(state, |numbers, places| unsafe {
+                bachumoi_fresh(numbers.as_mut_ptr(), numbers.len(), places.as_mut_ptr(), places.len())
+            })
         }
 
         fn tick(&self, programme: &[u64], request: &[u8], state: &mut [u64], budget: u64, out: &mut [u16]) -> Tick {
-            unpack(unsafe {
+            unpack(apart(state, |numbers, places| unsafe {
                 bachumoi_tick(
                     programme.as_ptr(),
                     programme.len(),
                     request.as_ptr(),
                     request.len(),
-                    state.as_mut_ptr(),
-                    state.len(),
+                    numbers.as_mut_ptr(),
+                    numbers.len(),
+                    places.as_mut_ptr(),
+                    places.len(),
                     budget,
                     out.as_mut_ptr(),
                     out.len(),
                 )
-            })
+            }))
         }
 
         fn fields(&self) -> &'static [Field] {

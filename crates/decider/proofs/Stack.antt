@@ -87,17 +87,19 @@ shift-done l o at m e k h g j q w =
 pub clear-none : (l : List ℕ) (n : ℕ) → l ≡ take n l ++ (replicate (n - n) 0 ++ drop n l)
 clear-none l n = let c : n - n ≡ 0 = omega arith in rw c (sym (take-append-drop n l))
 
+zero-more : (q ys : List ℕ) (j : ℕ) → (q ++ replicate j 0) ++ 0 ∷ ys ≡ q ++ (replicate (j + 1) 0 ++ ys)
+zero-more q ys j =
+    append-assoc q (replicate j 0) (0 ∷ ys)
+    ∙ ap (λ z. q ++ z) (sym (append-assoc (replicate j 0) (0 ∷ []) ys) ∙ ap (λ z. z ++ ys) (replicate-append-replicate j 1 0))
+
 pub clear-more : (l o : List ℕ) (n k : ℕ) → n ≤ k → k < length l → o ≡ take n l ++ (replicate (k - n) 0 ++ drop k l)
     → set o k 0 ≡ take n l ++ (replicate (k + 1 - n) 0 ++ drop (k + 1) l)
 clear-more l o n k h g e =
-    let p : List ℕ = take n l ++ replicate (k - n) 0 in
     let c : k + 1 - n ≡ (k - n) + 1 = omega arith in
-    let lp : length p ≡ k = length-append (take n l) (replicate (k - n) 0) ∙ omega (arith, length-take-le n l (omega arith), length-replicate {A = ℕ} (k - n) 0) in
-    let a : o ≡ p ++ getD l k 0 ∷ drop (suc k) l =
-    e ∙ ap (λ z. take n l ++ (replicate (k - n) 0 ++ z)) (drop-cons l k 0 g) ∙ sym (append-assoc (take n l) (replicate (k - n) 0) _) in
-    rw (a, set-at p (getD l k 0) (drop (suc k) l) 0 k lp, c, add-one k)
-    (append-assoc (take n l) (replicate (k - n) 0) (0 ∷ drop (suc k) l)
-    ∙ ap (λ z. take n l ++ z) (sym (append-assoc (replicate (k - n) 0) (0 ∷ []) (drop (suc k) l)) ∙ ap (λ z. z ++ drop (suc k) l) (replicate-append-replicate (k - n) 1 0)))
+    let lp : length (take n l ++ replicate (k - n) 0) ≡ k =
+    length-append (take n l) (replicate (k - n) 0) ∙ omega (arith, length-take-le n l (omega arith), length-replicate {A = ℕ} (k - n) 0) in
+    rw (e, drop-cons l k 0 g, ← append-assoc (take n l) (replicate (k - n) 0) (getD l k 0 ∷ drop (suc k) l), set-at (take n l ++ replicate (k - n) 0) (getD l k 0) (drop (suc k) l) 0 k lp, c, add-one k)
+    (zero-more (take n l) (drop (suc k) l) (k - n))
 
 pub clear-done : (l o : List ℕ) (n k : ℕ) → k ≡ length l → o ≡ take n l ++ (replicate (k - n) 0 ++ drop k l) → o ≡ take n l ++ replicate (length l - n) 0
 clear-done l o n k e w = w ∙ rw (e, drop-length, append-nil)

@@ -27,16 +27,16 @@ pub enum Outcome {
 }
 
 // The one child whose target matches, by place and span, for only-one.
-pub enum Pick {
+enum Pick {
     Nobody,
     One(usize, usize),
     Many,
 }
 
 // A decision, and how many places its obligations end at.
-pub struct Ruling {
-    pub decision: Decision,
-    pub count: usize,
+struct Ruling {
+    decision: Decision,
+    count: usize,
 }
 
 fn same(a: Decision, b: Decision) -> bool
@@ -334,6 +334,7 @@ fn walk(
         let d = r.decision;
         let e = r.count;
         let before = algorithm::outcome(a, acc);
+        // A child here is no rule: the effect counts for nothing.
         acc = algorithm::take_in(a, acc, Effect::Permits, d);
         let after = algorithm::outcome(a, acc);
         m = places::settle(out, n, m, e, stay(before, after), stay(d, after));
@@ -358,13 +359,9 @@ fn answer(book: &[u8], request: &[u8], records: usize, out: &mut [u16]) -> Rulin
     ensures { λ r. ⌜ Answered (now (book .entry)) (now (request .entry)) (now (out .entry)) (now (out .exit)) (r .decision) (r .count) ⌝ }
 {
     let r = child(book, request, 0, records, records, out, 0);
-    let d = r.decision;
     let n = r.count;
     places::clear(out, n);
-    Ruling {
-        decision: d,
-        count: n,
-    }
+    r
 }
 
 // Judges book, request and output, then decides: the decision, and the obligations first in out and zeros after them. A refusal leaves out as

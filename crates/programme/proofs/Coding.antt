@@ -15,7 +15,6 @@ use Rattle.meaning.specs.declared.Decision.{Decision}
 use Rattle.meaning.specs.declared.Decision.the-variants.{Permit, Deny, NotApplicable, Indeterminate}
 use Rattle.meaning.specs.declared.Algorithm.{Algorithm}
 use Rattle.meaning.specs.declared.Algorithm.the-variants.{RulesDeny, RulesPermit, First, PoliciesDeny, PoliciesPermit, OnlyOne}
-use Rattle.algorithm.specs.declared.Rank.{Rank}
 use Rattle.algorithm.specs.declared.Rank.the-variants.{R0, R1, R2, R3, R4}
 use Rattle.algorithm.specs.declared.Acc.{Acc}
 use Rattle.algorithm.specs.declared.Acc.the-variants.{Ranked, Nobody, Pending, Two, One}
@@ -24,7 +23,7 @@ use Rattle.programme.specs.declared.Op.the-variants.{All, Any, Not}
 use Rattle.programme.specs.declared.Level.{Level}
 use Rattle.programme.specs.declared.Frame.{Frame}
 use Rattle.programme.specs.declared.Head.{Head}
-use Rattle.programme.specs.Layout.{bitOf, truthCode, truthBy, decisionCode, decisionBy, effectCode, effectBy, opCode, opBy, algorithmCode, algorithmBy, rankCode, rankBy, accCode, accBy, levelOf, levelWord, frameOf, frameWord, unpackOf, packOf, allowed}
+use Rattle.programme.specs.Layout.{bitOf, truthCode, truthBy, decisionCode, decisionBy, effectCode, effectBy, opCode, opBy, algorithmCode, algorithmBy, rankBy, accCode, accBy, levelOf, levelWord, frameOf, frameWord, unpackOf, packOf, allowed}
 use Rattle.programme.specs.Moves.{Held, Ranged}
 
 -- words
@@ -295,11 +294,11 @@ allowed-pack h r =
       le-leb _ _ (r .stacks),
     )
 
-both-left : (a b : Bool) → both a b ≡ true → a ≡ true
+pub both-left : (a b : Bool) → both a b ≡ true → a ≡ true
 both-left true b e = refl
 both-left false b e = e
 
-both-right : (a b : Bool) → both a b ≡ true → b ≡ true
+pub both-right : (a b : Bool) → both a b ≡ true → b ≡ true
 both-right true b e = e
 both-right false b e = let z : _≡_ {A = ℕ} 0 1 = cc in absurd (omega arith)
 

@@ -1,6 +1,6 @@
 -- Every step moves forward, inside the programme, and leaves a first number that the layout allows. Assumes nothing.
-use Prim.Native.Nat.{ℕ, zero, suc, _+_, _-_, _≤_, _<_, min, max}
-use mathlib.Core.Path.{_≡_, refl, sym, ap, _∙_}
+use Prim.Native.Nat.{ℕ, zero, suc, _+_, _≤_, _<_, max}
+use mathlib.Core.Path.{_≡_, refl, ap}
 use mathlib.Core.Bool.{Bool, true, false}
 use mathlib.Core.List.{List}
 use lib.ListN.{length}
@@ -22,17 +22,16 @@ use Rattle.algorithm.specs.declared.Acc.the-variants.{Ranked, Nobody, Pending, 
 use Rattle.programme.specs.declared.Head.{Head}
 use Rattle.programme.specs.declared.Frame.{Frame}
 use Rattle.programme.specs.declared.Level.{Level}
-use Rattle.programme.specs.declared.Next.{Next}
 use Rattle.programme.specs.declared.Placing.{Placing}
 use Rattle.programme.specs.declared.Placing.the-variants.{Rest, AddPermit, AddDeny, FallPermit, FallDeny, FallBoth, Cut, Down}
 use Rattle.programme.specs.Entry.{Entry, begin, match, further, opens, compare, close, rule, enter, applies, conclude, oblige, leave, shift, finish, extra, reach, fits, lawful}
-use Rattle.programme.specs.Core.{Changing, keep, push, swap, below, back, Out, past, told, settledBy, targetDone, sectionDone, conjunctionDone, matchDone, tell, closed, concluded, noted, pushed, shifted, core}
+use Rattle.programme.specs.Core.{Changing, keep, push, swap, below, back, past, told, settledBy, targetDone, sectionDone, conjunctionDone, matchDone, tell, closed, concluded, noted, pushed, shifted, core}
 use Rattle.programme.specs.Machine.{roomF, roomL, heightAfter, permitsAfter, deniesAfter, cutAfter}
 use Rattle.programme.specs.Layout.{unpackOf, allowed, fetch}
 use Rattle.programme.specs.Step.{headAfter, after, seen, mayStep, stepOf}
 use Rattle.programme.specs.declared.State.{State}
 use Rattle.programme.proofs.Coding.{ranged, held, unpack-pack, allowed-pack}
-use Rattle.programme.specs.Moves.{Ranged}
+use Rattle.programme.specs.Moves.{Ranged, Placed}
 
 -- how far a match leads
 target-far : (v : Truth) (j x : ℕ) (r : Decision) → targetDone v j x r .jump ≤ max j x
@@ -110,65 +109,56 @@ inside shift g long h l m f b w = go (both (is (h .reg) Deny) (ltb (h .permits) 
     go false = omega (arith, w)
 inside finish g long h l m f b w = w
 
--- what becomes of the obligations stays within the places
-Tame : Head → Placing → Type 0
-Tame h Rest = Unit
-Tame h (AddPermit n) = Unit
-Tame h (AddDeny n) = Unit
-Tame h (FallPermit k) = Unit
-Tame h (FallDeny k) = Unit
-Tame h (FallBoth k j) = Unit
-Tame h (Cut c) = c ≤ 1000
-Tame h (Down n) = h .permits + n ≤ h .denies
-
-tame-core : (e : Entry) (g : Bags) (long : ℕ) (h : Head) (l m : Level) (f b : Frame) → fits e ≡ true → Tame h (core g long h e l m f b .placing)
-unfolding core Tame
-tame-core (begin c) g long h l m f b w = leb-true c 1000 w
-tame-core (match t k c s i j x) g long h l m f b w = tt
-tame-core further g long h l m f b w = tt
-tame-core (opens op) g long h l m f b w = tt
-tame-core (compare t n) g long h l m f b w = go (h .nest)
+-- what becomes of the obligations is within reach
+pub placed-core : (e : Entry) (g : Bags) (long : ℕ) (h : Head) (l m : Level) (f b : Frame) → fits e ≡ true
+    → Placed (core g long h e l m f b .placing) (h .permits) (h .denies)
+unfolding core
+placed-core (begin c) g long h l m f b w = leb-true c 1000 w
+placed-core (match t k c s i j x) g long h l m f b w = tt
+placed-core further g long h l m f b w = tt
+placed-core (opens op) g long h l m f b w = tt
+placed-core (compare t n) g long h l m f b w = go (h .nest)
   where
-    go : (k : ℕ) → Tame h (tell (comparisonOf g t) n k l (h .reg) .placing)
+    go : (k : ℕ) → Placed (tell (comparisonOf g t) n k l (h .reg) .placing) (h .permits) (h .denies)
     go zero = tt
     go (suc k) = tt
-tame-core (close n) g long h l m f b w = go (h .nest)
+placed-core (close n) g long h l m f b w = go (h .nest)
   where
-    go : (k : ℕ) → Tame h (closed n k l m (h .reg) .placing)
+    go : (k : ℕ) → Placed (closed n k l m (h .reg) .placing) (h .permits) (h .denies)
     go zero = tt
     go (suc zero) = tt
     go (suc (suc k)) = tt
-tame-core (rule e n) g long h l m f b w = tt
-tame-core (enter al) g long h l m f b w = tt
-tame-core (applies n) g long h l m f b w = go (b .acc)
+placed-core (rule e n) g long h l m f b w = tt
+placed-core (enter al) g long h l m f b w = tt
+placed-core (applies n) g long h l m f b w = go (b .acc)
   where
-    go : (a : Acc) → Tame h (noted a b n (h .reg) .placing)
+    go : (a : Acc) → Placed (noted a b n (h .reg) .placing) (h .permits) (h .denies)
     go (Ranked k) = tt
     go Nobody = tt
     go Pending = tt
     go Two = tt
     go (One d) = tt
-tame-core (conclude n) g long h l m f b w = go (result (f .alg) (f .acc))
+placed-core (conclude n) g long h l m f b w = go (result (f .alg) (f .acc))
   where
-    go : (d : Decision) → Tame h (concluded d n (f .permits) (f .denies) .placing)
+    go : (d : Decision) → Placed (concluded d n (f .permits) (f .denies) .placing) (h .permits) (h .denies)
     go Permit = tt
     go Deny = tt
     go NotApplicable = tt
     go Indeterminate = tt
-tame-core (oblige e n) g long h l m f b w = go e (is (h .reg) (decisionOf e))
+placed-core (oblige e n) g long h l m f b w = go e (is (h .reg) (decisionOf e))
   where
-    go : (e : Effect) (x : Bool) → Tame h (pushed e x n)
+    go : (e : Effect) (x : Bool) → Placed (pushed e x n) (h .permits) (h .denies)
     go e false = tt
-    go Permits true = tt
-    go Denies true = tt
-tame-core (leave n) g long h l m f b w = tt
-tame-core shift g long h l m f b w = go (is (h .reg) Deny) (ltb (h .permits) (h .denies)) refl
+    go Permits true = ltb-true n 65536 w
+    go Denies true = ltb-true n 65536 w
+placed-core (leave n) g long h l m f b w = tt
+placed-core shift g long h l m f b w = go (is (h .reg) Deny) (ltb (h .permits) (h .denies)) refl
   where
-    go : (y x : Bool) → ltb (h .permits) (h .denies) ≡ x → Tame h (shifted (both y x) long h .placing)
+    go : (y x : Bool) → ltb (h .permits) (h .denies) ≡ x → Placed (shifted (both y x) long h .placing) (h .permits) (h .denies)
     go true true z = let k = ltb-true (h .permits) (h .denies) z in omega (arith, k)
     go true false z = tt
     go false x z = tt
-tame-core finish g long h l m f b w = tt
+placed-core finish g long h l m f b w = tt
 
 depth-range : (z : Changing Frame) (k : ℕ) → k ≤ 16 → heightAfter roomF z k ≤ 16
 depth-range keep k w = w
@@ -192,8 +182,7 @@ nest-range (swap x) k w = w
 nest-range (below x) k w = w
 nest-range (back x) k w = omega (arith, w)
 
-permits-range : (h : Head) (z : Placing) → Tame h z → Ranged h → permitsAfter z (h .cut) (h .permits) ≤ 1000
-unfolding Tame
+permits-range : (h : Head) (z : Placing) → Placed z (h .permits) (h .denies) → Ranged h → permitsAfter z (h .cut) (h .permits) ≤ 1000
 permits-range h Rest w r = r .permits
 permits-range h (AddPermit n) w r = go (ltb (h .permits) (h .cut)) refl
   where
@@ -207,8 +196,7 @@ permits-range h (FallBoth k j) w r = omega (arith, r .permits)
 permits-range h (Cut c) w r = omega arith
 permits-range h (Down n) w r = omega (arith, w, r .stacks)
 
-stacks-range : (h : Head) (z : Placing) → Tame h z → Ranged h → cutAfter z (h .cut) + deniesAfter z (h .cut) 1000 (h .denies) ≤ 1000
-unfolding Tame
+stacks-range : (h : Head) (z : Placing) → Placed z (h .permits) (h .denies) → Ranged h → cutAfter z (h .cut) + deniesAfter z (h .cut) 1000 (h .denies) ≤ 1000
 stacks-range h Rest w r = r .stacks
 stacks-range h (AddPermit n) w r = r .stacks
 stacks-range h (AddDeny n) w r = go (ltb (h .cut + h .denies) 1000) refl
@@ -238,8 +226,7 @@ unfolding headAfter
 forward e g long h l m f b s r w =
     let z = lawful-parts long (h .at) e w in
     let i = inside e g long h l m f b (z .1) in
-    let t = tame-core e g long h l m f b (z .0) in
-    (
+    let t = placed-core e g long h l m f b (z .0) in (
       omega arith,
       i,
       record {

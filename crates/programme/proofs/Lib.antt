@@ -1,3 +1,7 @@
 pub mod Coding
 pub mod Local
 pub mod Forward
+pub mod Outcome
+pub mod Found
+pub mod Carried
+pub mod Stepping

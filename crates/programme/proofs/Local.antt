@@ -1,5 +1,5 @@
 -- A step is local: the claims of specs/Local.antt. Assumes nothing.
-use Prim.Native.Nat.{ℕ, zero, suc, _+_, _-_, _≤_, _<_, min}
+use Prim.Native.Nat.{ℕ, zero, suc, _+_, _-_, _≤_}
 use mathlib.Core.Path.{_≡_, refl, sym, ap, _∙_}
 use mathlib.Core.Bool.{Bool, true, false}
 use mathlib.Core.Logic.{_⊎_, inl, inr, ⊎-elim}
@@ -25,9 +25,9 @@ use Rattle.programme.specs.declared.Level.{Level}
 use Rattle.programme.specs.declared.Placing.{Placing}
 use Rattle.programme.specs.declared.Placing.the-variants.{Rest, AddPermit, AddDeny, FallPermit, FallDeny, FallBoth, Cut, Down}
 use Rattle.programme.specs.Entry.{Entry, begin, match, further, opens, compare, close, rule, enter, applies, conclude, oblige, leave, shift, finish}
-use Rattle.programme.specs.Core.{Changing, keep, push, swap, below, back, Out, tell, closed, concluded, noted, pushed, shifted, core}
+use Rattle.programme.specs.Core.{Changing, keep, push, swap, below, back, tell, closed, concluded, noted, pushed, shifted, core}
 use Rattle.programme.specs.Machine.{roomF, roomL, stackAfter, copies, placesAfter}
-use Rattle.programme.specs.Layout.{frameWord, levelWord, unpackOf, fetch}
+use Rattle.programme.specs.Layout.{frameWord, levelWord, fetch}
 use Rattle.programme.specs.Step.{inWords, after, seen, mayStep, stepOf}
 use Rattle.programme.specs.Local.{keyOf, headOf, entryAt, SameSight, outOf, DependsOnNoMore, ChangesNoMore, Obliges, PutsNoMore}
 

@@ -1,4 +1,10 @@
 // The programme: the layout of its entries and of the state, a step, a run and a tick.
+mod carry;
+mod conditions;
+mod entries;
+mod moves;
+mod policies;
+mod targets;
 pub mod words;
 
 use algorithm::Acc;
@@ -7,6 +13,14 @@ use meaning::Decision;
 use meaning::Effect;
 use meaning::Test;
 use meaning::Truth;
+ghost use mathlib.Core.Path.{_≡_};
+ghost use mathlib.Core.Bool.{true};
+ghost use Prim.Native.Nat.{_≤_};
+ghost use lib.ListN.{length};
+ghost use Rattle.meaning.specs.Reading.{bagsOf};
+ghost use Rattle.programme.specs.Layout.{allowed};
+ghost use Rattle.programme.specs.Step.{mayStep, steppedOf, stateOf};
+
 // What a condition that is open does with its parts.
 pub enum Op {
     All,
@@ -82,6 +96,12 @@ pub struct Move {
     pub placing: Placing,
 }
 
+// What an entry is found to do, and how many further entries it has; or it is outside its layout.
+pub enum Met {
+    Outside,
+    Does(Move, u64),
+}
+
 pub struct State {
     pub head: u64,
     pub frames: [u64; 17],
@@ -95,19 +115,38 @@ pub struct Went {
     pub head: u64,
 }
 
-// step_in, whose proof is on its way, will be:
-// // One step, with the arrays of the state lent. Where it meets entries outside their layout, the state stays as it is.
-// pub fn step_in(
-//     programme: &[u64],
-//     request: &[u8],
-//     head: u64,
-//     frames: &mut [u64; 17],
-//     levels: &mut [u64; 15],
-//     places: &mut [u16; 1000],
-// ) -> Went
-//     requires { ⌜ (length (now programme) ≤ 8008) × (allowed head ≡ true) ⌝ }
-//     ensures { λ r. ⌜ (r .ok ≡ mayStep (now (programme .entry)) (stateOf head (now (frames .entry)) (now (levels .entry)) (now (places .entry))))
-//         × (stateOf (r .head) (now (frames .exit)) (now (levels .exit)) (now (places .exit))
-//             ≡ steppedOf (now (programme .entry)) (bagsOf (now (request .entry)))
-//                 (stateOf head (now (frames .entry)) (now (levels .entry)) (now (places .entry))) .state)
-//         × (allowed (r .head) ≡ true) ⌝ }
+// One step, with the arrays of the state lent. Where it meets entries outside their layout, the state stays as it is.
+pub fn step_in(
+    programme: &[u64],
+    request: &[u8],
+    head: u64,
+    frames: &mut [u64; 17],
+    levels: &mut [u64; 15],
+    places: &mut [u16; 1000],
+) -> Went
+    requires { ⌜ (length (now programme) ≤ 8008) × (allowed head ≡ true) ⌝ }
+    ensures { λ r. ⌜ (r .ok ≡ mayStep (now (programme .entry)) (stateOf head (now (frames .entry)) (now (levels .entry)) (now (places .entry))))
+        × (stateOf (r .head) (now (frames .exit)) (now (levels .exit)) (now (places .exit))
+        ≡ steppedOf (now (programme .entry)) (bagsOf (now (request .entry)))
+        (stateOf head (now (frames .entry)) (now (levels .entry)) (now (places .entry))) .state)
+        × (allowed (r .head) ≡ true) ⌝ }
+{
+    let h = words::unpack(head);
+    let depth = h.depth as usize;
+    let nest = h.nest as usize;
+    let frame = frames[depth];
+    let under = frames[carry::lower(depth)];
+    let level = levels[nest];
+    let outer = levels[carry::lower(nest)];
+    let met = entries::meet(programme, request, h, level, outer, frame, under);
+    match met {
+        Met::Outside => Went { ok: false, head },
+        Met::Does(m, further) => {
+            let after = carry::carry_out(h, m, further, frames, levels, places);
+            Went {
+                ok: true,
+                head: after,
+            }
+        }
+    }
+}

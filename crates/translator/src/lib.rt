@@ -79,6 +79,7 @@ fn single(out: &mut [u64], end: usize, op: u64, field: usize) -> usize
     prepend(out, end, op + 16 * field as u64)
 }
 
+// A truth, a function by its number.
 fn bit(b: bool) -> u64
     ensures { λ r. ⌜ (r ≡ bitOf b) × (r < 2) ⌝ }
 {
@@ -100,6 +101,7 @@ fn function_code(f: Function) -> u64
     }
 }
 
+// A test in a number, by function and must-be-present; the first number of a match, of a comparison.
 fn test_word(t: Test) -> u64
     ensures { λ r. ⌜ (r ≡ testWord t) × (r < 16) ⌝ }
 {
@@ -294,6 +296,7 @@ fn condition(book: &[u8], i: usize, s: usize, n: usize, out: &mut [u64], end: us
     single(out, head, OPENS, choice - 1)
 }
 
+// The parts of a condition.
 fn conditions(book: &[u8], i: usize, left: usize, out: &mut [u64], end: usize) -> usize
     requires { ⌜ ((i + left) * 16 ≤ length (now book)) × (length (conditionsCode (now book) i left) ≤ end) × (end ≤ 16384) ⌝ }
     ensures { λ r. ⌜ Emitted (conditionsCode (now (book .entry)) i left) end (now (out .entry)) (now (out .exit)) r ⌝ }
@@ -321,7 +324,7 @@ fn when(book: &[u8], i: usize, left: usize, out: &mut [u64], end: usize) -> usiz
     when(book, i + s, left - s, out, end)
 }
 
-// The number of an effect; of an algorithm over rules; of one over policies.
+// An effect, an algorithm over rules, one over policies by its number.
 fn effect_code(choice: usize) -> usize
     ensures { λ r. ⌜ (r ≡ effectCode (effectOf choice)) × (r < 2) ⌝ }
 {
@@ -369,7 +372,8 @@ fn rule(book: &[u8], i: usize, s: usize, n: usize, out: &mut [u64], end: usize) 
     target(book, i + 1, s - 1, foot - mid, out, mid)
 }
 
-fn rules(book: &[u8], i: usize, left: usize, out: &mut [u64], end: usize) -> usize
+// The rules among a policy's children.
+fn rules_in(book: &[u8], i: usize, left: usize, out: &mut [u64], end: usize) -> usize
     requires { ⌜ ((i + left) * 16 ≤ length (now book)) × (length (rulesCode (now book) i left) ≤ end) × (end ≤ 16384) ⌝ }
     ensures { λ r. ⌜ Emitted (rulesCode (now (book .entry)) i left) end (now (out .entry)) (now (out .exit)) r ⌝ }
 {
@@ -377,13 +381,14 @@ fn rules(book: &[u8], i: usize, left: usize, out: &mut [u64], end: usize) -> usi
         return end;
     }
     let s = record::span_in(book, i, left);
-    let mid = rules(book, i + s, left - s, out, end);
+    let mid = rules_in(book, i + s, left - s, out, end);
     if record::byte(book, i, 0) != 3 {
         return mid;
     }
     rule(book, i, s, end - mid, out, mid)
 }
 
+// The obligations among a policy's or set's children.
 fn obligations(book: &[u8], i: usize, left: usize, out: &mut [u64], end: usize) -> usize
     requires { ⌜ ((i + left) * 16 ≤ length (now book)) × (length (obligationsCode (now book) i left) ≤ end) ⌝ }
     ensures { λ r. ⌜ Emitted (obligationsCode (now (book .entry)) i left) end (now (out .entry)) (now (out .exit)) r ⌝ }
@@ -422,7 +427,7 @@ fn body(book: &[u8], i: usize, s: usize, out: &mut [u64], end: usize) -> usize
     if record::byte(book, i, 0) == 1 {
         return trees(book, i + 1, s - 1, record::byte(book, i, 1), out, mid);
     }
-    rules(book, i + 1, s - 1, out, mid)
+    rules_in(book, i + 1, s - 1, out, mid)
 }
 
 // The number of the algorithm of the policy or set at record i.
@@ -449,6 +454,7 @@ fn tree(book: &[u8], i: usize, s: usize, up: usize, n: usize, out: &mut [u64], e
     single(out, head, ENTER, algorithm_code(book, i))
 }
 
+// The policies and sets among a set's children, whose choice is `up`.
 fn trees(book: &[u8], i: usize, left: usize, up: usize, out: &mut [u64], end: usize) -> usize
     requires { ⌜ ((i + left) * 16 ≤ length (now book)) × (length (treesCode (now book) i left up) ≤ end) × (end ≤ 16384) ⌝ }
     ensures { λ r. ⌜ Emitted (treesCode (now (book .entry)) i left up) end (now (out .entry)) (now (out .exit)) r ⌝ }

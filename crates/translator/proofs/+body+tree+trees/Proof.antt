@@ -18,7 +18,7 @@ use Rattle.record.proofs.span_in.Reads as span-in-reads
 use Rattle.translator.proofs.algorithm_code.Reads as algorithm-code-reads
 use Rattle.translator.proofs.applies.Reads as applies-reads
 use Rattle.translator.proofs.obligations.Reads as obligations-reads
-use Rattle.translator.proofs.rules.Reads as rules-reads
+use Rattle.translator.proofs.rules_in.Reads as rules-in-reads
 use Rattle.translator.proofs.single.Reads as single-reads
 use Rattle.translator.proofs.target.Reads as target-reads
 use Rattle.translator.proofs.+body+tree+trees.{statement}
@@ -52,7 +52,7 @@ abbrev trees-below : ℕ → In 2 trees-kinds.ps
 trees-below t = and 2 trees-kinds.ps (falls 2 trees-kinds.ps _<_ μ-trees t) trees.Pre
 
 abbrev body-calls : ℕ → body-lts.Claims
-body-calls t = (obligations-reads.Asked, obligations-reads.Learnt, single-reads.Asked, single-reads.Learnt, byte-reads.Asked, byte-reads.Learnt, trees-below t, trees.Post, rules-reads.Asked, rules-reads.Learnt)
+body-calls t = (obligations-reads.Asked, obligations-reads.Learnt, single-reads.Asked, single-reads.Learnt, byte-reads.Asked, byte-reads.Learnt, trees-below t, trees.Post, rules-in-reads.Asked, rules-in-reads.Learnt)
 
 abbrev tree-calls : ℕ → tree-lts.Claims
 tree-calls t = (single-reads.Asked, single-reads.Learnt, body-below t, body.Post, applies-reads.Asked, applies-reads.Learnt, target-reads.Asked, target-reads.Learnt, algorithm-code-reads.Asked, algorithm-code-reads.Learnt)
@@ -72,11 +72,11 @@ body-trees-requires t c κs = (search needs, (search needs, first-fits (body-set
 body-returns : (t : ℕ) → body-lts.Need-returns (body-calls t) (body-at t) body.Post
 body-returns t c = three (body-set _ _ _ _ _ (same-as (c .before .before .before .before .before .before .byte .ensures .0) (c .before .before .before .before .before .if1 .taken)) (c .before .before .before .before .byte2 .ensures .0) (behind (c .before .before .before .before .before .before .before .before .before .before .before .before .before .obligations .ensures))) (c .before .before .before .before .before .before .before .before .before .before .before .before .before .obligations .ensures) (concluded _ (c .before .before .before .before .before .before .before .before .before .single .ensures)) (c .before .before .trees .ensures)
 
-body-rules-requires : (t : ℕ) → body-lts.Need-rules-requires (body-calls t) (body-at t) body.Post
+body-rules-requires : (t : ℕ) → body-lts.Need-rules-in-requires (body-calls t) (body-at t) body.Post
 body-rules-requires t c κs = (search needs, first-fits (body-policy _ _ _ _ (differs 1 (c .before .before .byte .ensures .0) (c .before .if1 .left)) (behind (c .before .before .before .before .before .before .before .before .before .obligations .ensures))) (c .before .before .before .before .before .before .before .before .before .before .before .before .before .pre .1 .2) (c .before .before .before .before .before .before .before .before .before .obligations .ensures) (concluded _ (c .before .before .before .before .before .single .ensures)), search needs)
 
 body-returns-2 : (t : ℕ) → body-lts.Need-returns-2 (body-calls t) (body-at t) body.Post
-body-returns-2 t c = three (body-policy _ _ _ _ (differs 1 (c .before .before .before .before .before .byte .ensures .0) (c .before .before .before .before .if1 .left)) (behind (c .before .before .before .before .before .before .before .before .before .before .before .before .obligations .ensures))) (c .before .before .before .before .before .before .before .before .before .before .before .before .obligations .ensures) (concluded _ (c .before .before .before .before .before .before .before .before .single .ensures)) (c .before .before .rules .ensures)
+body-returns-2 t c = three (body-policy _ _ _ _ (differs 1 (c .before .before .before .before .before .byte .ensures .0) (c .before .before .before .before .if1 .left)) (behind (c .before .before .before .before .before .before .before .before .before .before .before .before .obligations .ensures))) (c .before .before .before .before .before .before .before .before .before .before .before .before .obligations .ensures) (concluded _ (c .before .before .before .before .before .before .before .before .single .ensures)) (c .before .before .rules-in .ensures)
 
 tree-single-requires : (t : ℕ) → tree-lts.Need-single-requires (tree-calls t) (tree-at t) tree.Post
 tree-single-requires t c κs = (five-fits (tree-parts _ _ _ _ _ _ _ refl refl) _ (c .before .before .before .pre .1 .2), search needs, search needs)

@@ -1,0 +1,131 @@
+-- Laws of what an entry is found to do: whether it is in its layout, and which one stands at a place. Assumes nothing.
+use Prim.Native.Nat.{ℕ, suc, _+_, _/_, _%_, _≤_, _<_, max}
+use mathlib.Core.Path.{_≡_, refl, sym, _∙_}
+use mathlib.Core.Bool.{Bool, true, false}
+use mathlib.Core.List.{List}
+use native.Mathlib.Omega.{arith}
+use lib.Dec.{leb}
+use lib.ListN.{getD}
+use borrow.Author.Tests.{le-leb, lt-leb, ne-eqb}
+use Rattle.record.specs.Choose.{both}
+use Rattle.meaning.specs.Meaning.{Bags}
+use Rattle.programme.specs.declared.Level.{Level}
+use Rattle.programme.specs.declared.Frame.{Frame}
+use Rattle.programme.specs.declared.Head.{Head}
+use Rattle.programme.specs.declared.Move.{Move}
+use Rattle.programme.specs.declared.Met.{Met}
+use Rattle.programme.specs.declared.Met.the-variants.{Outside, Does}
+use Rattle.programme.specs.Entry.{Entry, further, extra, reach, fits, lawful}
+use Rattle.programme.specs.Core.{core, shifted}
+use Rattle.programme.specs.Layout.{matchBy, compareBy, entryBy, entryOf, fetch}
+use Rattle.programme.specs.Moves.{moveOf, metIf, meets}
+
+same-if : (ok : Bool) (v w : Move) (k n : ℕ) → v ≡ w → k ≡ n → metIf ok v k ≡ metIf ok w n
+same-if true v w k n e f = rw (e, f)
+same-if false v w k n e f = refl
+
+module _ (g : Bags) (long : ℕ) (h : Head) (e : Entry) (l m : Level) (f b : Frame) where
+  pub met : (r : Met) (ok : Bool) (v : Move) (k : ℕ) → r ≡ metIf ok v k → ok ≡ lawful long (h .at) e
+      → v ≡ moveOf (core g long h e l m f b) → k ≡ extra e → r ≡ meets g long h e l m f b
+  unfolding meets
+  met r ok v k a o c d = rw (a, o) (same-if (lawful long (h .at) e) v (moveOf (core g long h e l m f b)) k (extra e) c d)
+
+  pub does : (v : Move) (k : ℕ) → lawful long (h .at) e ≡ true → v ≡ moveOf (core g long h e l m f b) → k ≡ extra e
+      → Does v k ≡ meets g long h e l m f b
+  does v k o c d = met (Does v k) true v k refl (sym o) c d
+
+  pub outside : lawful long (h .at) e ≡ false → Outside ≡ meets g long h e l m f b
+  unfolding meets
+  outside o = rw o
+
+both-true : (x : Bool) → both x true ≡ x
+both-true true = refl
+both-true false = refl
+
+both-false : (x : Bool) → both x false ≡ false
+both-false true = refl
+both-false false = refl
+
+module _ (long at : ℕ) where
+  -- an entry that leads nowhere else, one that leads so far, one beyond the end
+  pub lawful-fits : (e : Entry) (x : Bool) → at < long → fits e ≡ x → reach e ≡ 0 → x ≡ lawful long at e
+  unfolding lawful
+  lawful-fits e x a p q = let k : at + 1 ≤ long = omega arith in rw (p, q, le-leb (at + 1) long k, both-true x)
+
+  pub lawful-reach : (e : Entry) (x : Bool) (n : ℕ) → fits e ≡ true → reach e ≡ n → x ≡ leb (at + suc n) long → x ≡ lawful long at e
+  unfolding lawful
+  lawful-reach e x n p q k = rw (p, q) k
+
+  pub lawful-beyond : (e : Entry) → long ≤ at → lawful long at e ≡ false
+  unfolding lawful
+  lawful-beyond e a = let k : long < at + suc (reach e) = omega arith in rw (lt-leb (at + suc (reach e)) long k, both-false (fits e))
+
+  pub compare-lawful : (n literal : ℕ) → lawful long at (compareBy n literal) ≡ leb (at + 1 + suc (n / 68719476736)) long
+  unfolding lawful compareBy
+  compare-lawful n literal = let k : at + suc (1 + n / 68719476736) ≡ at + 1 + suc (n / 68719476736) = omega arith in rw k
+
+  pub compare-short : (n literal : ℕ) → long < at + 2 → lawful long at (compareBy n literal) ≡ false
+  compare-short n literal a = compare-lawful n literal ∙ lt-leb (at + 1 + suc (n / 68719476736)) long (omega arith)
+
+  pub match-lawful : (n literal ways : ℕ)
+      → lawful long at (matchBy n literal ways) ≡ leb (at + 2 + suc (max (n / 549755813888) (max (ways % 8192) (ways / 8192)))) long
+  unfolding lawful matchBy
+  match-lawful n literal ways =
+      let far : ℕ = max (n / 549755813888) (max (ways % 8192) (ways / 8192)) in
+      let k : at + suc (2 + far) ≡ at + 2 + suc far = omega arith in
+      rw k
+
+  pub match-short : (n literal ways : ℕ) → long < at + 3 → lawful long at (matchBy n literal ways) ≡ false
+  match-short n literal ways a =
+      let far : ℕ = max (n / 549755813888) (max (ways % 8192) (ways / 8192)) in
+      match-lawful n literal ways ∙ lt-leb (at + 2 + suc far) long (omega arith)
+
+-- Deny's obligations are brought down while the decision is Deny and some are left
+module _ (r : Move) (long : ℕ) (h : Head) (x y : Bool) where
+  pub shift-never : x ≡ false → r ≡ moveOf (shifted false long h) → r ≡ moveOf (shifted (both x y) long h)
+  shift-never e k = rw e k
+
+  pub shift-done : x ≡ true → y ≡ false → r ≡ moveOf (shifted false long h) → r ≡ moveOf (shifted (both x y) long h)
+  shift-done e f k = rw (e, f) k
+
+  pub shift-more : x ≡ true → y ≡ true → r ≡ moveOf (shifted true long h) → r ≡ moveOf (shifted (both x y) long h)
+  shift-more e f k = rw (e, f) k
+
+-- the entry at a place, by its kind
+pub found : (p : List ℕ) (i k : ℕ) → getD p i 0 % 16 ≡ k → fetch p i ≡ entryBy k (getD p i 0 / 16) (getD p (i + 1) 0) (getD p (i + 2) 0)
+unfolding fetch entryOf
+found p i k e = rw e
+
+pub no-entry : (k n literal ways : ℕ) → 12 < k → entryBy k n literal ways ≡ further
+unfolding entryBy
+no-entry k n literal ways a =
+    rw (
+      ne-eqb k 0 (λ e. omega arith),
+      ne-eqb k 1 (λ e. omega arith),
+      ne-eqb k 2 (λ e. omega arith),
+      ne-eqb k 3 (λ e. omega arith),
+      ne-eqb k 4 (λ e. omega arith),
+      ne-eqb k 5 (λ e. omega arith),
+      ne-eqb k 6 (λ e. omega arith),
+      ne-eqb k 7 (λ e. omega arith),
+      ne-eqb k 8 (λ e. omega arith),
+      ne-eqb k 9 (λ e. omega arith),
+      ne-eqb k 10 (λ e. omega arith),
+      ne-eqb k 11 (λ e. omega arith),
+      ne-eqb k 12 (λ e. omega arith),
+    )
+
+-- a number that no kind has
+pub lawful-none : (p : List ℕ) (i long : ℕ) → 12 < getD p i 0 % 16 → lawful long i (fetch p i) ≡ false
+unfolding lawful
+lawful-none p i long a = rw (found p i (getD p i 0 % 16) refl, no-entry (getD p i 0 % 16) (getD p i 0 / 16) (getD p (i + 1) 0) (getD p (i + 2) 0) a)
+
+none-below : (k : ℕ) → 0 ≤ k
+none-below k = omega arith
+
+beyond : (n k : ℕ) → n ≤ k → (k ≡ n → ⊥) → n + 1 ≤ k
+beyond n k a e = omega arith
+
+pub past-all : (k : ℕ) → (k ≡ 0 → ⊥) → (k ≡ 1 → ⊥) → (k ≡ 2 → ⊥) → (k ≡ 3 → ⊥) → (k ≡ 4 → ⊥) → (k ≡ 5 → ⊥) → (k ≡ 6 → ⊥) → (k ≡ 7 → ⊥)
+    → (k ≡ 8 → ⊥) → (k ≡ 9 → ⊥) → (k ≡ 10 → ⊥) → (k ≡ 11 → ⊥) → (k ≡ 12 → ⊥) → 12 < k
+past-all k a0 a1 a2 a3 a4 a5 a6 a7 a8 a9 a10 a11 a12 = let b4 = beyond 3 k (beyond 2 k (beyond 1 k (beyond 0 k (none-below k) a0) a1) a2) a3 in let b8 = beyond 7 k (beyond 6 k (beyond 5 k (beyond 4 k b4 a4) a5) a6) a7 in let b12 = beyond 11 k (beyond 10 k (beyond 9 k (beyond 8 k b8 a8) a9) a10) a11 in beyond 12 k b12 a12

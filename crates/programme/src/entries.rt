@@ -1,0 +1,403 @@
+// The entries of a programme: what each does, by the programme's length, the first number taken apart, its own number without the kind, and the
+// levels and frames that it sees.
+use crate::Change;
+use crate::Frame;
+use crate::Head;
+use crate::Level;
+use crate::Met;
+use crate::Move;
+use crate::Next;
+use crate::Placing;
+use crate::conditions::close_level;
+use crate::conditions::start_of;
+use crate::conditions::tell_level;
+use crate::moves::cleared;
+use crate::moves::moving;
+use crate::moves::past_if;
+use crate::moves::unchanged;
+use crate::policies::conclude_by;
+use crate::policies::note_in;
+use crate::policies::pushed_by;
+use crate::policies::put_in;
+use crate::policies::ruled_by;
+use crate::targets::Stands;
+use crate::targets::match_done;
+use crate::words::algorithm_by;
+use crate::words::effect_by;
+use crate::words::frame_of;
+use crate::words::frame_word;
+use crate::words::level_of;
+use crate::words::level_word;
+use crate::words::op_by;
+use meaning::Decision;
+use meaning::Effect;
+use meaning::Test;
+ghost use mathlib.Core.Path.{_≡_};
+ghost use mathlib.Core.Bool.{false};
+ghost use Prim.Native.Nat.{suc, _+_, _-_, _/_, _%_, _<_, max, min};
+ghost use lib.Dec.{leb, ltb, eqb};
+ghost use lib.ListN.{length, getD};
+ghost use Rattle.record.specs.Choose.{both};
+ghost use Rattle.meaning.specs.Meaning.{Bags, is};
+ghost use Rattle.meaning.specs.Reading.{bagsOf};
+ghost use Rattle.programme.specs.Entry.{begin, opens, close, rule, enter, applies, conclude, oblige, leave, shift, finish};
+ghost use Rattle.programme.specs.Core.{atOnce, shifted};
+ghost use Rattle.programme.specs.Layout.{testOf, matchBy, compareBy, effectBy, opBy, algorithmBy, levelOf, frameOf, fetch};
+ghost use Rattle.programme.specs.Moves.{Held, moveOf, metIf, meets};
+
+fn unless_outside(ok: bool, m: Move, further: u64) -> Met
+    ensures { λ r. ⌜ r ≡ metIf ok m further ⌝ }
+{
+    if ok {
+        return Met::Does(m, further);
+    }
+    Met::Outside
+}
+
+// Whether an entry leads no further than the programme's end.
+fn reaches(long: u64, at: u64, n: u64) -> bool
+    requires { ⌜ at < long ⌝ }
+    ensures { λ r. ⌜ r ≡ leb (at + suc n) long ⌝ }
+{
+    if long - at - 1 < n {
+        return false;
+    }
+    true
+}
+
+fn begin_at(long: u64, h: Head, n: u64) -> Met
+    requires { ⌜ h .at < long ⌝ }
+    ensures { λ r. ⌜ ((g : Bags) (l m : Level) (f b : Frame) → r ≡ meets g long h (begin n) l m f b) ⌝ }
+{
+    let first = cleared(0, Decision::Permit);
+    let m = moving(first, Change::Keep, Change::Keep, Placing::Cut(n));
+    unless_outside(n <= 1000, m, 0)
+}
+
+// Matches and comparisons.
+fn test_by(n: u64, key: u64, literal: u64) -> Test
+    requires { ⌜ key < 4294967296 ⌝ }
+    ensures { λ r. ⌜ r ≡ testOf n key literal ⌝ }
+{
+    let number = n % 8;
+    Test {
+        function: value::function_of(number as usize),
+        must: n / 8 % 2 == 1,
+        key: key as u32,
+        literal,
+    }
+}
+
+fn stands_at(n: u64, ways: u64) -> Stands
+    ensures { λ r. ⌜ r ≡ record {
+      m = eqb (n / 16 % 2) 1;
+      c = eqb (n / 32 % 2) 1;
+      l = eqb (n / 64 % 2) 1;
+      i = n / 549755813888;
+      j = ways % 8192;
+      x = ways / 8192;
+    } ⌝ }
+{
+    Stands {
+        m: n / 16 % 2 == 1,
+        c: n / 32 % 2 == 1,
+        l: n / 64 % 2 == 1,
+        i: n / 549755813888,
+        j: ways % 8192,
+        x: ways / 8192,
+    }
+}
+
+fn larger(a: u64, b: u64) -> u64
+    ensures { λ r. ⌜ r ≡ max a b ⌝ }
+{
+    if a < b {
+        return b;
+    }
+    a
+}
+
+fn match_at(programme: &[u64], request: &[u8], h: Head, n: u64) -> Met
+    requires { ⌜ h .at < length (now programme) ⌝ }
+    ensures { λ r. ⌜ ((l m : Level) (f b : Frame) → r ≡ meets (bagsOf (now (request .entry))) (length (now (programme .entry))) h
+        (matchBy n (getD (now (programme .entry)) (h .at + 1) 0) (getD (now (programme .entry)) (h .at + 2) 0)) l m f b) ⌝ }
+{
+    let at = h.at as usize;
+    if programme.len() - at < 3 {
+        return Met::Outside;
+    }
+    let literal = programme[at + 1];
+    let s = stands_at(n, programme[at + 2]);
+    let far = larger(s.i, larger(s.j, s.x));
+    if !reaches(programme.len() as u64, h.at + 2, far) {
+        return Met::Outside;
+    }
+    let ands = h.ands;
+    let ors = h.ors;
+    let sections = h.sections;
+    let reg = h.reg;
+    let t = test_by(n, n / 128 % 4294967296, literal);
+    let v = meaning::and3(ands, request::matches(request, t));
+    let on = match_done(v, s, ors, sections, reg);
+    Met::Does(moving(on, Change::Keep, Change::Keep, Placing::Rest), 2)
+}
+
+fn compare_at(programme: &[u64], request: &[u8], h: Head, n: u64, l: u64) -> Met
+    requires { ⌜ h .at < length (now programme) ⌝ }
+    ensures { λ r. ⌜ ((m : Level) (f b : Frame) → r ≡ meets (bagsOf (now (request .entry))) (length (now (programme .entry))) h
+        (compareBy n (getD (now (programme .entry)) (h .at + 1) 0)) (levelOf l) m f b) ⌝ }
+{
+    let at = h.at as usize;
+    if programme.len() - at < 2 {
+        return Met::Outside;
+    }
+    let literal = programme[at + 1];
+    let jump = n / 68719476736;
+    if !reaches(programme.len() as u64, h.at + 1, jump) {
+        return Met::Outside;
+    }
+    let reg = h.reg;
+    let t = test_by(n, n / 16 % 4294967296, literal);
+    let v = request::comparison(request, t);
+    Met::Does(tell_level(v, jump, h.nest, level_of(l), reg), 1)
+}
+
+// Conditions.
+fn open_at(long: u64, h: Head, n: u64) -> Met
+    requires { ⌜ h .at < long ⌝ }
+    ensures { λ r. ⌜ ((g : Bags) (l m : Level) (f b : Frame) → r ≡ meets g long h (opens (opBy n)) l m f b) ⌝ }
+{
+    let op = op_by(n);
+    let top = Level {
+        op,
+        val: start_of(op),
+    };
+    let m = moving(
+        unchanged(h, 0),
+        Change::Push(level_word(top)),
+        Change::Keep,
+        Placing::Rest,
+    );
+    unless_outside(true, m, 0)
+}
+
+fn close_at(long: u64, h: Head, n: u64, l: u64, m: u64) -> Met
+    requires { ⌜ h .at < long ⌝ }
+    ensures { λ r. ⌜ ((g : Bags) (f b : Frame) → r ≡ meets g long h (close n) (levelOf l) (levelOf m) f b) ⌝ }
+{
+    let reg = h.reg;
+    let closes = close_level(n, h.nest, level_of(l), level_of(m), reg);
+    unless_outside(reaches(long, h.at, n), closes, 0)
+}
+
+// Rules, policies and sets.
+fn rule_at(long: u64, h: Head, n: u64, f: u64) -> Met
+    requires { ⌜ h .at < long ⌝ }
+    ensures { λ r. ⌜ ((g : Bags) (l m : Level) (b : Frame) → r ≡ meets g long h (rule (effectBy (n % 2)) (n / 2)) l m (frameOf f) b) ⌝ }
+{
+    let jump = n / 2;
+    let e = effect_by(n % 2);
+    let top = frame_of(f);
+    let alg = top.alg;
+    let acc = top.acc;
+    let reg = h.reg;
+    let a = algorithm::take_in(alg, acc, e, ruled_by(e, reg));
+    let on = past_if(algorithm::settles(alg, a), jump, Decision::Permit);
+    let w = frame_word(put_in(top, a));
+    let m = moving(on, Change::Keep, Change::Swap(w), Placing::Rest);
+    unless_outside(reaches(long, h.at, jump), m, 0)
+}
+
+fn enter_at(long: u64, h: Head, n: u64) -> Met
+    requires { ⌜ (h .at < long) × Held h ⌝ }
+    ensures { λ r. ⌜ ((g : Bags) (l m : Level) (f b : Frame) → r ≡ meets g long h (enter (algorithmBy n)) l m f b) ⌝ }
+{
+    let alg = algorithm_by(n);
+    let acc = algorithm::begin(alg);
+    let ands = h.ands;
+    let ors = h.ors;
+    let sections = h.sections;
+    let w = frame_word(Frame {
+        alg,
+        acc,
+        permits: h.permits,
+        denies: h.denies,
+    });
+    let on = Next {
+        jump: 0,
+        reg: Decision::Permit,
+        ands,
+        ors,
+        sections,
+    };
+    unless_outside(
+        true,
+        moving(on, Change::Keep, Change::Push(w), Placing::Rest),
+        0,
+    )
+}
+
+fn applies_at(long: u64, h: Head, n: u64, b: u64) -> Met
+    requires { ⌜ h .at < long ⌝ }
+    ensures { λ r. ⌜ ((g : Bags) (l m : Level) (f : Frame) → r ≡ meets g long h (applies n) l m f (frameOf b)) ⌝ }
+{
+    let reg = h.reg;
+    let m = note_in(frame_of(b), n, reg);
+    unless_outside(reaches(long, h.at, n), m, 0)
+}
+
+fn conclude_at(long: u64, h: Head, n: u64, f: u64) -> Met
+    requires { ⌜ h .at < long ⌝ }
+    ensures { λ r. ⌜ ((g : Bags) (l m : Level) (b : Frame) → r ≡ meets g long h (conclude n) l m (frameOf f) b) ⌝ }
+{
+    let top = frame_of(f);
+    let alg = top.alg;
+    let acc = top.acc;
+    let m = conclude_by(algorithm::outcome(alg, acc), n, top.permits, top.denies);
+    unless_outside(reaches(long, h.at, n), m, 0)
+}
+
+fn oblige_at(long: u64, h: Head, n: u64) -> Met
+    requires { ⌜ h .at < long ⌝ }
+    ensures { λ r. ⌜ ((g : Bags) (l m : Level) (f b : Frame) → r ≡ meets g long h (oblige (effectBy (n % 2)) (n / 2)) l m f b) ⌝ }
+{
+    let number = n / 2;
+    let e = effect_by(n % 2);
+    let reg = h.reg;
+    let placing = pushed_by(e, reg, number);
+    let m = moving(cleared(0, reg), Change::Keep, Change::Keep, placing);
+    unless_outside(number < 65536, m, 0)
+}
+
+fn leave_at(long: u64, h: Head, n: u64, b: u64) -> Met
+    requires { ⌜ h .at < long ⌝ }
+    ensures { λ r. ⌜ ((g : Bags) (l m : Level) (f : Frame) → r ≡ meets g long h (leave n) l m f (frameOf b)) ⌝ }
+{
+    let under = frame_of(b);
+    let alg = under.alg;
+    let acc = under.acc;
+    let reg = h.reg;
+    let a = algorithm::take_in(alg, acc, Effect::Permits, reg);
+    let on = past_if(algorithm::settles(alg, a), n, Decision::Permit);
+    let w = frame_word(put_in(under, a));
+    let m = moving(on, Change::Keep, Change::Back(w), Placing::Rest);
+    unless_outside(reaches(long, h.at, n), m, 0)
+}
+
+// The end.
+fn is_deny(d: Decision) -> bool
+    ensures { λ r. ⌜ r ≡ is d (Decision.Deny) ⌝ }
+{
+    match d {
+        Decision::Permit => false,
+        Decision::Deny => true,
+        Decision::NotApplicable => false,
+        Decision::Indeterminate => false,
+    }
+}
+
+// How many of Deny's obligations are brought down at once.
+const AT_ONCE: u64 = 2;
+
+fn brought_down(permits: u64, denies: u64) -> u64
+    requires { ⌜ permits < denies ⌝ }
+    ensures { λ r. ⌜ r ≡ min atOnce (denies - permits) ⌝ }
+{
+    let left = denies - permits;
+    if left < AT_ONCE {
+        return left;
+    }
+    AT_ONCE
+}
+
+// How many entries lie between this one and the last.
+fn to_last(long: u64, at: u64) -> u64
+    requires { ⌜ at < long ⌝ }
+    ensures { λ r. ⌜ r ≡ long - 2 - at ⌝ }
+{
+    if long - at < 2 {
+        return 0;
+    }
+    long - at - 2
+}
+
+fn pass_on(long: u64, h: Head) -> Move
+    requires { ⌜ h .at < long ⌝ }
+    ensures { λ r. ⌜ r ≡ moveOf (shifted false long h) ⌝ }
+{
+    let on = unchanged(h, to_last(long, h.at));
+    moving(on, Change::Keep, Change::Keep, Placing::Rest)
+}
+
+fn shift_by(long: u64, h: Head) -> Move
+    requires { ⌜ h .at < long ⌝ }
+    ensures { λ r. ⌜ r ≡ moveOf (shifted (both (is (h .reg) (Decision.Deny)) (ltb (h .permits) (h .denies))) long h) ⌝ }
+{
+    let reg = h.reg;
+    if !is_deny(reg) {
+        return pass_on(long, h);
+    }
+    if h.denies <= h.permits {
+        return pass_on(long, h);
+    }
+    let n = brought_down(h.permits, h.denies);
+    moving(
+        unchanged(h, 0),
+        Change::Keep,
+        Change::Keep,
+        Placing::Down(n),
+    )
+}
+
+fn shift_at(long: u64, h: Head) -> Met
+    requires { ⌜ h .at < long ⌝ }
+    ensures { λ r. ⌜ ((g : Bags) (l m : Level) (f b : Frame) → r ≡ meets g long h shift l m f b) ⌝ }
+{
+    unless_outside(true, shift_by(long, h), 0)
+}
+
+fn finish_at(long: u64, h: Head) -> Met
+    requires { ⌜ h .at < long ⌝ }
+    ensures { λ r. ⌜ ((g : Bags) (l m : Level) (f b : Frame) → r ≡ meets g long h finish l m f b) ⌝ }
+{
+    let on = unchanged(h, 0);
+    let last = Move {
+        next: on,
+        over: true,
+        levels: Change::Keep,
+        frames: Change::Keep,
+        placing: Placing::Rest,
+    };
+    unless_outside(true, last, 0)
+}
+
+// The entry at the place of the first number, with the levels and the frames on top and below.
+pub fn meet(programme: &[u64], request: &[u8], h: Head, l: u64, m: u64, f: u64, b: u64) -> Met
+    requires { ⌜ Held h ⌝ }
+    ensures { λ r. ⌜ r ≡ meets (bagsOf (now (request .entry))) (length (now (programme .entry))) h (fetch (now (programme .entry)) (h .at))
+        (levelOf l) (levelOf m) (frameOf f) (frameOf b) ⌝ }
+{
+    let at = h.at as usize;
+    if programme.len() <= at {
+        return Met::Outside;
+    }
+    let long = programme.len() as u64;
+    let word = programme[at];
+    let n = word / 16;
+    match word % 16 {
+        0 => begin_at(long, h, n),
+        1 => match_at(programme, request, h, n),
+        2 => compare_at(programme, request, h, n, l),
+        3 => open_at(long, h, n),
+        4 => close_at(long, h, n, l, m),
+        5 => rule_at(long, h, n, f),
+        6 => enter_at(long, h, n),
+        7 => applies_at(long, h, n, b),
+        8 => conclude_at(long, h, n, f),
+        9 => oblige_at(long, h, n),
+        10 => leave_at(long, h, n, b),
+        11 => shift_at(long, h),
+        12 => finish_at(long, h),
+        _ => Met::Outside,
+    }
+}
