@@ -12,7 +12,7 @@ enum { BOOKS = 1000, REQUESTS = 8, DAMAGED = 20000 };
 
 static uint8_t book[MOST_BOOK], request[MOST_REQUEST];
 static struct programme programme;
-static struct dice dice = { 20 };
+static struct dice dice = { 20 }, dealing = { 21 };
 
 /* What is counted over some books: how many, their records and entries, and the most entries beyond four a record; over
  * their runs: how many, records looked at and steps. */
@@ -58,7 +58,7 @@ static uint64_t run_like(const struct machine *machine, size_t request_len, uint
 {
     uint16_t out[BACHUMOI_PLACES];
     uint64_t steps;
-    if (run(machine, &programme, request, request_len, &dice, out, &steps) != number)
+    if (run(machine, &programme, request, request_len, &dealing, out, &steps) != number)
         wrong("another answer than was decided", "run");
     for (size_t i = 0; i < BACHUMOI_PLACES; i++)
         if (out[i] != (decided[2 * i] << 8 | decided[2 * i + 1]))
@@ -134,28 +134,32 @@ static uint64_t random_number(void)
     return number >> roll(&dice, 64);
 }
 
-/* Spoils some numbers: a bit, all of one, or one put where another stood. */
+/* Spoils some numbers: a bit, all of one, one put where another stood, or a double that is not finite. */
 static void damage(uint64_t *numbers, size_t count)
 {
     for (unsigned left = roll(&dice, 6); left > 0; left--) {
         uint64_t *number = &numbers[roll(&dice, (unsigned)count)];
-        switch (roll(&dice, 3)) {
+        switch (roll(&dice, 4)) {
         case 0:
             *number ^= (uint64_t)1 << roll(&dice, 64);
             break;
         case 1:
             *number = random_number();
             break;
-        default:
+        case 2:
             *number = numbers[roll(&dice, (unsigned)count)];
+            break;
+        default:
+            *number = 0x7FF0000000000000 | (uint64_t)roll(&dice, 2) << 63;
         }
     }
 }
 
-/* A first number with every field within its limits, most of the time. */
+/* A first number with every field within its limits, at times with full stacks. */
 static uint64_t random_first(size_t length)
 {
-    uint64_t cut = roll(&dice, 1001), denies = roll(&dice, 1001 - (unsigned)cut), rest = random_number() % 512;
+    uint64_t cut = roll(&dice, 1001), rest = random_number() % 512;
+    uint64_t denies = roll(&dice, 2) == 0 ? 1000 - cut : roll(&dice, 1001 - (unsigned)cut);
     return roll(&dice, (unsigned)length) | (uint64_t)roll(&dice, 17) << 13 | (uint64_t)roll(&dice, 15) << 18 |
            (uint64_t)roll(&dice, 1001) << 22 | denies << 32 | cut << 42 | rest << 52;
 }

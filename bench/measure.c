@@ -79,9 +79,21 @@ static void amount(double of)
     printf("%.*f\t", of < 10 ? 2 : of < 100 ? 1 : 0, of);
 }
 
+/* Records or entries, in a column of their own; a dash where there is none. */
+static void count(size_t of)
+{
+    if (of > 0)
+        printf("%zu\t", of);
+    else
+        printf("-\t");
+}
+
 static void head(const char *what, const struct input *input, const char *unit, double plain)
 {
-    printf("%s\t%s\t%zu\t%zu\t%s\t", what, input->name, input->book_len / 16, input->request_len / 16, unit);
+    printf("%s\t%s\t", what, input->name);
+    count(input->book_len / 16);
+    count(input->request_len / 16);
+    printf("%s\t", unit);
     amount(plain);
 }
 

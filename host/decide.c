@@ -47,12 +47,25 @@ static uint8_t *lend(struct bytes bytes)
 
 static void print_answer(uint64_t answer)
 {
-    static const char *const decisions[] = { "?", "Permit", "Deny", "NotApplicable", "Indeterminate" };
-    unsigned decision = bachumoi_decision(answer);
-    if (bachumoi_refused(answer))
+    switch (bachumoi_answer(answer)) {
+    case BACHUMOI_RUNNING:
+        printf("running, which no decision is");
+        break;
+    case BACHUMOI_PERMIT:
+        printf("Permit");
+        break;
+    case BACHUMOI_DENY:
+        printf("Deny");
+        break;
+    case BACHUMOI_NOT_APPLICABLE:
+        printf("NotApplicable");
+        break;
+    case BACHUMOI_INDETERMINATE:
+        printf("Indeterminate");
+        break;
+    case BACHUMOI_REFUSED:
         printf("refused %u, part %u, line %u", bachumoi_number(answer), bachumoi_part(answer), bachumoi_line(answer));
-    else
-        printf("%s", decisions[decision <= 4 ? decision : 0]);
+    }
 }
 
 static int same(const uint8_t *a, const uint8_t *b, size_t len)
@@ -73,7 +86,7 @@ static void expect(const char *name, struct bytes book, struct bytes request, ui
 
     printf("%-34s 0x%-12llX ", name, (unsigned long long)got);
     print_answer(got);
-    for (unsigned i = 0; !bachumoi_refused(got) && i < bachumoi_count(got) && 2 * i + 1 < left.len; i++)
+    for (unsigned i = 0; i < bachumoi_count(got) && 2 * i + 1 < left.len; i++)
         printf(" %u", (unsigned)out[2 * i] << 8 | out[2 * i + 1]);
     printf("%s\n", right ? "" : "   WRONG");
     failed |= !right;

@@ -84,7 +84,7 @@ enum { SUBJECT = 1, RESOURCE, ACTION, ENVIRONMENT };
 enum { INTEGER = 1, NAME, DOUBLE };
 enum { ENTRIES = 8 };
 
-/* A write that waits for its answer; or the whole of the script, for the table. */
+/* A valve command: in which frame it was asked, the request that asks for it, and what its check has taken so far. */
 struct write {
     unsigned asked;
     char maker[9], channel[9];
@@ -203,8 +203,8 @@ static struct deed *deed_of(unsigned obligation)
     return NULL;
 }
 
-/* Does all obligations of an answer, or none where one of them is not known: that one is returned. */
-static const uint16_t *unknown_among(const uint16_t *obligations, unsigned count, struct model *m)
+/* Does all obligations of an answer; or none where one of them is not known, and returns that one. */
+static const uint16_t *fulfil(const uint16_t *obligations, unsigned count, struct model *m)
 {
     for (unsigned i = 0; i < count; i++)
         if (!deed_of(obligations[i]))
@@ -247,7 +247,7 @@ static void decided(const struct write *write, unsigned frame, uint64_t number, 
 {
     unsigned count = bachumoi_count(number);
     print_write(write, frame, decision, count);
-    const uint16_t *unknown = unknown_among(check.out, count, m);
+    const uint16_t *unknown = fulfil(check.out, count, m);
     if (unknown)
         printf("dropped: %04X is not known\n", *unknown);
     else if (bachumoi_answer(number) == BACHUMOI_PERMIT) {

@@ -22,16 +22,16 @@ use Rattle.programme.proofs.Forward.{still-allowed}
 use Rattle.run.specs.Run.{stay, oneMore, goOn, runOf}
 use Rattle.run.specs.Runs.{andThen}
 use Rattle.run.specs.Tick.{countOf, obligationsOf}
-use Rattle.run.specs.declared.Ran.{Ran}
+use Rattle.run.specs.declared.kinds.Ran.{Ran}
 use Rattle.run.proofs.Runs.{finished-stays, runs-add}
 use Rattle.translator.specs.Code.{programme, inNumbers}
 use Rattle.translator.specs.Flat.{Flat, flatAfter, sees, flatStep, flatRun, flatOf, isFurther, Codes}
-use Rattle.translator.specs.Course.{Early, Late, Course}
+use Rattle.demand.specs.Course.{Early, Late, Course}
 use Rattle.translator.proofs.Holding.{InTree}
 use Rattle.translator.proofs.Fetch.{Key, Short, numbers-length, codes, lawful-at}
 use Rattle.translator.proofs.Packed.{packed-step}
 use Rattle.translator.proofs.Arrays.{Going}
 use Rattle.translator.proofs.Whole.{Answers}
 
 pub fresh-allowed : allowed (freshOf .head) ≡ true
 unfolding allowed freshOf packOf unpackOf

@@ -33,19 +33,20 @@ use Rattle.programme.specs.Step.{isOver, freshOf}
 use Rattle.run.specs.Run.{runOf}
 use Rattle.run.specs.Runs.{andThen}
 use Rattle.run.specs.Tick.{admitted, Ticked, countOf, obligationsOf, answered, ranOf, judgedTick, tickOf}
-use Rattle.run.specs.declared.Ran.{Ran}
-use Rattle.run.specs.declared.Answer.the-variants.{Running, Finished}
+use Rattle.run.specs.declared.kinds.Ran.{Ran}
+use Rattle.run.specs.declared.kinds.Answer.the-variants.{Running, Finished}
 use Rattle.run.proofs.Runs.{runs-add, runs-stay-allowed}
 use Rattle.translator.specs.Code.{programme, translated, inNumbers, obligations}
-use Rattle.translator.specs.Course.{Early, Late, Course}
-use Rattle.translator.specs.Demand.{Bytes, programmeOf, RunsRight, dealt, sum, answerAfter, EveryDealing}
+use Rattle.translator.specs.Translate.{programmeOf}
+use Rattle.demand.specs.Course.{Early, Late, Course}
+use Rattle.demand.specs.Demand.{Bytes, RunsRight, dealt, sum, answerAfter, EveryDealing}
 use Rattle.translator.proofs.Holding.{InTree, book-has}
 use Rattle.translator.proofs.Fetch.{Key, Short, numbers-length, codes, lawful-at}
 use Rattle.translator.proofs.Size.{short, recs}
 use Rattle.translator.proofs.Counted.{book-records, book-nest, obligations-le}
-use Rattle.translator.proofs.Depth.{book-deep}
+use Rattle.demand.proofs.Depth.{book-deep}
 use Rattle.translator.proofs.Whole.{translated-right}
-use Rattle.translator.proofs.Course.{course, fresh-allowed}
+use Rattle.demand.proofs.Course.{course, fresh-allowed}
 
 -- keys and numbers that are read from bytes fit
 key-small : (b : List ℕ) → Bytes b → (i : ℕ) → keyAt b i < 4294967296

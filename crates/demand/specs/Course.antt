@@ -10,7 +10,7 @@ use Rattle.programme.specs.Layout.{unpackOf}
 use Rattle.programme.specs.Step.{isOver, freshOf}
 use Rattle.run.specs.Run.{runOf}
 use Rattle.run.specs.Tick.{countOf, obligationsOf}
-use Rattle.run.specs.declared.Ran.{Ran}
+use Rattle.run.specs.declared.kinds.Ran.{Ran}
 
 -- a run that took n steps and is not over
 pub record Early (r : Ran) (n : ℕ) : Type 0 where

@@ -18,17 +18,13 @@ use Rattle.programme.specs.declared.State.{State}
 use Rattle.programme.specs.Step.{freshOf}
 use Rattle.run.specs.Run.{runOf}
 use Rattle.run.specs.Tick.{Ticked, tickOf}
-use Rattle.run.specs.declared.Answer.the-variants.{Running, Finished}
-use Rattle.translator.specs.Code.{translated, inNumbers}
-use Rattle.translator.specs.Course.{Course}
+use Rattle.run.specs.declared.kinds.Answer.the-variants.{Running, Finished}
+use Rattle.translator.specs.Translate.{programmeOf}
+use Rattle.demand.specs.Course.{Course}
 
 -- each element is a byte
 abbrev pub Bytes : List ℕ → Type 0
 Bytes b = (i : ℕ) → getD b i 0 < 256
-
--- the programme of a book, in numbers
-unfoldable pub programmeOf : List ℕ → List ℕ
-programmeOf b = inNumbers (translated (bookOf b))
 
 -- it has 1 to 4n + 3 entries, and whatever the request, its run from the fresh state ends within them with the decision and the obligations of the meaning
 abbrev pub RunsRight : Type 0

@@ -1,0 +1,3 @@
+pub mod Depth
+pub mod Course
+pub mod Demand

@@ -1,0 +1,15 @@
+use Rattle.outline.proofs.unit.Statement.{statement}
+use Rattle.outline.proofs.unit.Tie as tie
+use Rattle.outline.proofs.unit.Reads as reads
+use Rattle.outline.proofs.unit.Lts as lts
+
+-- src/lib.rt:213:9
+returns : tie.Need-returns
+returns c = ?
+
+-- src/lib.rt:209:1
+returns-2 : tie.Need-returns-2
+returns-2 c = ?
+
+pub unit-spec : {M : Type 1} → statement M
+unit-spec = tie.close (tie.spec returns returns-2)

@@ -1,0 +1,64 @@
+use Rattle.outline.proofs.words.Statement.{statement}
+use Rattle.outline.proofs.words.Tie as tie
+use Rattle.outline.proofs.words.Reads as reads
+use Rattle.outline.proofs.words.Lts as lts
+use Rattle.outline.proofs.none.Reads as none-reads
+use Rattle.outline.proofs.put.Reads as put-reads
+
+abbrev Inv-loop : tie.InvT-loop
+Inv-loop out₀ at w n₀ i₀ out n i = ?
+
+abbrev μ-loop : tie.MeasureT-loop
+μ-loop out₀ at w n₀ i₀ out n i = ?
+
+-- src/lib.rt:35:9
+none-requires : tie.Need-none-requires Inv-loop μ-loop
+none-requires c κs = ?
+
+-- src/lib.rt:37:5
+loop-holds : tie.Need-loop-holds Inv-loop μ-loop
+loop-holds c = ?
+
+-- src/lib.rt:38:25
+shared-slice-read-put : tie.Need-shared-slice-read-put Inv-loop μ-loop
+shared-slice-read-put c = ?
+
+-- src/lib.rt:38:9
+put-requires : tie.Need-put-requires Inv-loop μ-loop
+put-requires c κs = ?
+
+-- src/lib.rt:39:9
+add-i : tie.Need-add-i Inv-loop μ-loop
+add-i c = ?
+
+-- src/lib.rt:37:5
+loop-less : tie.Need-loop-less Inv-loop μ-loop
+loop-less c = ?
+
+-- src/lib.rt:37:5
+loop-again : tie.Need-loop-again Inv-loop μ-loop
+loop-again c = ?
+
+-- src/lib.rt:32:1
+same-length : tie.Need-same-length Inv-loop μ-loop
+same-length c = ?
+
+-- src/lib.rt:32:1
+returns : tie.Need-returns Inv-loop μ-loop
+returns c = ?
+
+pub words-spec : {M : Type 1} → statement M
+words-spec =
+    tie.close
+    (tie.spec
+    Inv-loop
+    μ-loop
+    none-requires
+    loop-holds
+    shared-slice-read-put
+    put-requires
+    add-i
+    loop-less
+    loop-again
+    same-length
+    returns)

@@ -1,0 +1,19 @@
+use Rattle.outline.proofs.written.Statement.{statement}
+use Rattle.outline.proofs.written.Tie as tie
+use Rattle.outline.proofs.written.Reads as reads
+use Rattle.outline.proofs.written.Lts as lts
+
+-- src/lib.rt:187:9
+returns : tie.Need-returns
+returns c = ?
+
+-- src/lib.rt:190:9
+returns-2 : tie.Need-returns-2
+returns-2 c = ?
+
+-- src/lib.rt:183:1
+returns-3 : tie.Need-returns-3
+returns-3 c = ?
+
+pub written-spec : {M : Type 1} → statement M
+written-spec = tie.close (tie.spec returns returns-2 returns-3)
