@@ -8,7 +8,7 @@
 #include <stdio.h>
 #include <string.h>
 
-enum { BOOKS = 1000, REQUESTS = 8, DAMAGED = 20000 };
+enum { BOOKS = 1000, REQUESTS = 8, DAMAGED = 40000 };
 
 static uint8_t book[MOST_BOOK], request[MOST_REQUEST];
 static struct programme programme;
@@ -134,34 +134,53 @@ static uint64_t random_number(void)
     return number >> roll(&dice, 64);
 }
 
-/* Spoils some numbers: a bit, all of one, one put where another stood, or a double that is not finite. */
+/* Spoils some numbers: a bit, all of one, or one put where another stood. */
 static void damage(uint64_t *numbers, size_t count)
 {
     for (unsigned left = roll(&dice, 6); left > 0; left--) {
         uint64_t *number = &numbers[roll(&dice, (unsigned)count)];
-        switch (roll(&dice, 4)) {
+        switch (roll(&dice, 3)) {
         case 0:
             *number ^= (uint64_t)1 << roll(&dice, 64);
             break;
         case 1:
             *number = random_number();
             break;
-        case 2:
-            *number = numbers[roll(&dice, (unsigned)count)];
-            break;
         default:
-            *number = 0x7FF0000000000000 | (uint64_t)roll(&dice, 2) << 63;
+            *number = numbers[roll(&dice, (unsigned)count)];
         }
     }
 }
 
-/* A first number with every field within its limits, at times with full stacks. */
+/* Spoils some entries: another function, a literal that is no finite double, a way that leads just to the end or beyond. */
+static void damage_entries(void)
+{
+    for (unsigned left = roll(&dice, 6); left > 0; left--) {
+        size_t place = roll(&dice, (unsigned)programme.length), behind = programme.length - place - 1;
+        uint64_t *entry = &programme.entries[place];
+        unsigned is = *entry & 15, further = is == 1 ? 2 : is == 2 ? 1 : 0, way = is == 1 ? 43 : is == 2 ? 40 : is == 5 ? 5 : 4;
+        unsigned how = roll(&dice, 3);
+        if (how == 0)
+            *entry = (*entry & ~(uint64_t)0x70) | (uint64_t)roll(&dice, 8) << 4;
+        else if (how == 1 && behind >= 1)
+            entry[1] = 0x7FF0000000000000 | (uint64_t)roll(&dice, 2) << 63;
+        else if (how == 2 && behind >= further)
+            *entry = (*entry & (((uint64_t)1 << way) - 1)) | (behind - further + roll(&dice, 2)) << way;
+    }
+}
+
+/* From 0 to a limit; now and then just that, or one past it. */
+static uint64_t about(unsigned limit)
+{
+    return roll(&dice, 8) == 0 ? limit + roll(&dice, 2) : roll(&dice, limit + 1);
+}
+
+/* A first number with every field within its limits, most of the time. */
 static uint64_t random_first(size_t length)
 {
     uint64_t cut = roll(&dice, 1001), rest = random_number() % 512;
-    uint64_t denies = roll(&dice, 2) == 0 ? 1000 - cut : roll(&dice, 1001 - (unsigned)cut);
-    return roll(&dice, (unsigned)length) | (uint64_t)roll(&dice, 17) << 13 | (uint64_t)roll(&dice, 15) << 18 |
-           (uint64_t)roll(&dice, 1001) << 22 | denies << 32 | cut << 42 | rest << 52;
+    return roll(&dice, (unsigned)length) | about(16) << 13 | about(14) << 18 | about(1000) << 22 |
+           about(1000 - (unsigned)cut) << 32 | cut << 42 | rest << 52;
 }
 
 /* One tick on both sides: number, state and output must be the same. */
@@ -187,15 +206,17 @@ static void damaged(void)
     for (unsigned i = 0; proved_machine && i < DAMAGED; i++) {
         struct state state;
         uint16_t out[BACHUMOI_PLACES];
-        size_t request_len = random_request(request, 8, &dice);
+        size_t request_len = random_request(request, 24, &dice);
         translate(&plain_machine, book, random_book(book, 1 + roll(&dice, 60), &dice), &programme);
         fresh(&plain_machine, &state);
-        tick(&plain_machine, &programme, request, request_len, &state, roll(&dice, 40), out);
-        if (roll(&dice, 2) == 0)
+        tick(&plain_machine, &programme, request, request_len, &state, roll(&dice, 2) == 0 ? 0 : roll(&dice, 20), out);
+        if (roll(&dice, 4) == 0)
             damage(programme.entries, programme.length);
         if (roll(&dice, 2) == 0)
+            damage_entries();
+        if (roll(&dice, 4) == 0)
             state.numbers[0] = random_first(programme.length);
-        if (roll(&dice, 2) == 0)
+        if (roll(&dice, 4) == 0)
             damage(state.numbers, BACHUMOI_NUMBERS);
         for (unsigned k = roll(&dice, 4); k > 0; k--)
             state.places[roll(&dice, BACHUMOI_PLACES)] = (uint16_t)roll(&dice, 65536);

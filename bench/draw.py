@@ -11,7 +11,7 @@ COLOURS = {"judge": "#6b6b6b", "translate": "#0072b2", "decide": "#d55e00", "run
            "step": "#2b8fc9"}
 NAMES = {"judge": "judge", "translate": "translate", "decide": "decide", "run": "whole run", "tick of 0": "tick of 0 steps",
          "step": "a step"}
-WIDTH, HEIGHT, TOP, BOTTOM = 960, 470, 74, 64
+WIDTH, HEIGHT, TOP, BOTTOM = 990, 470, 74, 64
 PANEL = 320                                 # width of a panel; its labels stand to the right of it
 
 

@@ -247,6 +247,11 @@ static void bad_states(void)
     part = l;
     part.places_len = BACHUMOI_PLACES - 1;
     refuses("999 places of a state", part, 0, refused(8, 4, 0));
+    part = l;
+    part.programme_len = BACHUMOI_MOST_PROGRAMME + 1;
+    part.programme = lend(part.programme_len * sizeof *part.programme);
+    refuses("8,009 entries", part, 0, refused(8, 4, 0));
+    free(part.programme);
     l.numbers[0] = (uint64_t)17 << 13;
     refuses("a state with 17 open", l, 0, refused(8, 4, 0));
     give_back(l);

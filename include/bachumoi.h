@@ -176,7 +176,7 @@ uint64_t bachumoi_fresh(uint64_t *numbers, size_t numbers_len, uint16_t *places,
  *   layout does not allow, or a step within the budget that meets entries outside their layout. A translated programme in
  *   its own run never meets 8. No step was taken; numbers, places and out are as they were.
  *
- * So a valve may move when bachumoi_answer says BACHUMOI_PERMIT, and only then.
+ * So a valve may move when bachumoi_answer says BACHUMOI_PERMIT and all obligations in out can be done, and only then.
  */
 uint64_t bachumoi_tick(const uint64_t *programme, size_t programme_len, const uint8_t *request, size_t request_len,
                        uint64_t *numbers, size_t numbers_len, uint16_t *places, size_t places_len, uint64_t budget,

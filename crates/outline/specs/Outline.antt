@@ -1,5 +1,5 @@
 -- Numbers, names and doubles as a person reads them, in ASCII. Assumes nothing.
-use Prim.Native.Nat.{ℕ, zero, suc, _+_, _-_, _*_, _/_, _%_}
+use Prim.Native.Nat.{ℕ, zero, suc, _+_, _-_, _*_, _/_, _%_, _≤_}
 use mathlib.Core.Path.{_≡_}
 use mathlib.Core.Bool.{Bool, not}
 use mathlib.Core.List.{List, [], _∷_, _++_}
@@ -12,6 +12,10 @@ use Rattle.record.specs.Choose.{if, both, either, among}
 pub record Adds (before : List ℕ) (at : ℕ) (xs after : List ℕ) (r : ℕ) : Type 0 where
   pub kept : length after ≡ length before
   pub said : take r after ≡ take (length before) (take at before ++ xs)
+
+-- .. and r bytes of it are there
+abbrev pub Says : List ℕ → ℕ → List ℕ → List ℕ → ℕ → Type 0
+Says before at xs after r = (r ≤ length after) × Adds before at xs after r
 
 -- the last decimal digit of a number
 abbrev pub digitOf : ℕ → ℕ

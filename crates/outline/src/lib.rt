@@ -2,14 +2,14 @@
 // finds no room is cut.
 ghost use mathlib.Core.Path.{_≡_};
 ghost use mathlib.Core.List.{[], _∷_};
-ghost use Prim.Native.Nat.{_+_, _*_, _/_, _%_, _≤_, _<_};
-ghost use lib.ListN.{length, replicate};
+ghost use Prim.Native.Nat.{_%_};
+ghost use lib.ListN.{replicate};
 ghost use Rattle.io.specs.Digits.{glyph};
-ghost use Rattle.outline.specs.Outline.{Adds, digitOf, digitsOf, decimalOf, integerOf, plain, escaped, nameOf, signOf, hexesOf, pointOf, writtenOf, powerOf, leadOf, hexOf, halvedOf, wholeOf, isWhole, digitsToo, doubleOf};
+ghost use Rattle.outline.specs.Outline.{Says, digitOf, digitsOf, decimalOf, integerOf, plain, escaped, nameOf, signOf, hexesOf, pointOf, writtenOf, powerOf, leadOf, hexOf, halvedOf, wholeOf, isWhole, digitsToo, doubleOf};
 
 // Nothing.
 fn none(out: &mut [u8], at: usize) -> usize
-    ensures { λ r. ⌜ (r ≤ length (now (out .exit))) × (Adds (now (out .entry)) at [] (now (out .exit)) r) ⌝ }
+    ensures { λ r. ⌜ Says (now (out .entry)) at [] (now (out .exit)) r ⌝ }
 {
     if out.len() <= at {
         return out.len();
@@ -19,7 +19,7 @@ fn none(out: &mut [u8], at: usize) -> usize
 
 // One byte.
 pub fn put(out: &mut [u8], at: usize, x: u8) -> usize
-    ensures { λ r. ⌜ (r ≤ length (now (out .exit))) × (Adds (now (out .entry)) at (x ∷ []) (now (out .exit)) r) ⌝ }
+    ensures { λ r. ⌜ Says (now (out .entry)) at (x ∷ []) (now (out .exit)) r ⌝ }
 {
     if out.len() <= at {
         return out.len();
@@ -30,7 +30,7 @@ pub fn put(out: &mut [u8], at: usize, x: u8) -> usize
 
 // Some bytes as they are.
 pub fn words(out: &mut [u8], at: usize, w: &[u8]) -> usize
-    ensures { λ r. ⌜ (r ≤ length (now (out .exit))) × (Adds (now (out .entry)) at (now (w .entry)) (now (out .exit)) r) ⌝ }
+    ensures { λ r. ⌜ Says (now (out .entry)) at (now (w .entry)) (now (out .exit)) r ⌝ }
 {
     let mut n = none(out, at);
     let mut i = 0;
@@ -43,7 +43,7 @@ pub fn words(out: &mut [u8], at: usize, w: &[u8]) -> usize
 
 // A byte, so many times.
 pub fn repeat(out: &mut [u8], at: usize, x: u8, times: usize) -> usize
-    ensures { λ r. ⌜ (r ≤ length (now (out .exit))) × (Adds (now (out .entry)) at (replicate times x) (now (out .exit)) r) ⌝ }
+    ensures { λ r. ⌜ Says (now (out .entry)) at (replicate times x) (now (out .exit)) r ⌝ }
 {
     if times == 0 {
         return none(out, at);
@@ -61,7 +61,7 @@ fn digit(n: u64) -> u8
 
 // A number in decimal, with at most `more` digits before the last.
 fn digits(out: &mut [u8], at: usize, n: u64, more: usize) -> usize
-    ensures { λ r. ⌜ (r ≤ length (now (out .exit))) × (Adds (now (out .entry)) at (digitsOf more n) (now (out .exit)) r) ⌝ }
+    ensures { λ r. ⌜ Says (now (out .entry)) at (digitsOf more n) (now (out .exit)) r ⌝ }
 {
     if more == 0 {
         return put(out, at, digit(n));
@@ -75,14 +75,14 @@ fn digits(out: &mut [u8], at: usize, n: u64, more: usize) -> usize
 
 // A number in decimal.
 pub fn decimal(out: &mut [u8], at: usize, n: u64) -> usize
-    ensures { λ r. ⌜ (r ≤ length (now (out .exit))) × (Adds (now (out .entry)) at (decimalOf n) (now (out .exit)) r) ⌝ }
+    ensures { λ r. ⌜ Says (now (out .entry)) at (decimalOf n) (now (out .exit)) r ⌝ }
 {
     digits(out, at, n, 19)
 }
 
 // Eight bytes as an integer, two's complement.
 pub fn integer(out: &mut [u8], at: usize, n: u64) -> usize
-    ensures { λ r. ⌜ (r ≤ length (now (out .exit))) × (Adds (now (out .entry)) at (integerOf n) (now (out .exit)) r) ⌝ }
+    ensures { λ r. ⌜ Says (now (out .entry)) at (integerOf n) (now (out .exit)) r ⌝ }
 {
     if n < 9223372036854775808 {
         return decimal(out, at, n);
@@ -120,7 +120,7 @@ fn is_plain(x: u8) -> bool
 
 // A byte of a name.
 fn escape(out: &mut [u8], at: usize, x: u8) -> usize
-    ensures { λ r. ⌜ (r ≤ length (now (out .exit))) × (Adds (now (out .entry)) at (escaped x) (now (out .exit)) r) ⌝ }
+    ensures { λ r. ⌜ Says (now (out .entry)) at (escaped x) (now (out .exit)) r ⌝ }
 {
     if is_plain(x) {
         return put(out, at, x);
@@ -133,7 +133,7 @@ fn escape(out: &mut [u8], at: usize, x: u8) -> usize
 
 // The bytes of a name.
 pub fn name(out: &mut [u8], at: usize, w: &[u8]) -> usize
-    ensures { λ r. ⌜ (r ≤ length (now (out .exit))) × (Adds (now (out .entry)) at (nameOf (now (w .entry))) (now (out .exit)) r) ⌝ }
+    ensures { λ r. ⌜ Says (now (out .entry)) at (nameOf (now (w .entry))) (now (out .exit)) r ⌝ }
 {
     let mut n = none(out, at);
     let mut i = 0;
@@ -146,7 +146,7 @@ pub fn name(out: &mut [u8], at: usize, w: &[u8]) -> usize
 
 // The sign of a double, where there is one.
 fn sign(out: &mut [u8], at: usize, n: u64) -> usize
-    ensures { λ r. ⌜ (r ≤ length (now (out .exit))) × (Adds (now (out .entry)) at (signOf n) (now (out .exit)) r) ⌝ }
+    ensures { λ r. ⌜ Says (now (out .entry)) at (signOf n) (now (out .exit)) r ⌝ }
 {
     if n < 9223372036854775808 {
         return none(out, at);
@@ -156,7 +156,7 @@ fn sign(out: &mut [u8], at: usize, n: u64) -> usize
 
 // A fraction of 52 bits, in at most `left` hexadecimal digits.
 fn hexes(out: &mut [u8], at: usize, f: u64, left: usize) -> usize
-    ensures { λ r. ⌜ (r ≤ length (now (out .exit))) × (Adds (now (out .entry)) at (hexesOf left f) (now (out .exit)) r) ⌝ }
+    ensures { λ r. ⌜ Says (now (out .entry)) at (hexesOf left f) (now (out .exit)) r ⌝ }
 {
     if left == 0 {
         return none(out, at);
@@ -170,7 +170,7 @@ fn hexes(out: &mut [u8], at: usize, f: u64, left: usize) -> usize
 
 // The part after the point, where there is one.
 fn point(out: &mut [u8], at: usize, f: u64) -> usize
-    ensures { λ r. ⌜ (r ≤ length (now (out .exit))) × (Adds (now (out .entry)) at (pointOf f) (now (out .exit)) r) ⌝ }
+    ensures { λ r. ⌜ Says (now (out .entry)) at (pointOf f) (now (out .exit)) r ⌝ }
 {
     if f == 0 {
         return none(out, at);
@@ -194,7 +194,7 @@ fn written(e: u64, f: u64) -> u64
 
 // The power of two, with its sign.
 fn power(out: &mut [u8], at: usize, e: u64) -> usize
-    ensures { λ r. ⌜ (r ≤ length (now (out .exit))) × (Adds (now (out .entry)) at (powerOf e) (now (out .exit)) r) ⌝ }
+    ensures { λ r. ⌜ Says (now (out .entry)) at (powerOf e) (now (out .exit)) r ⌝ }
 {
     let k = put(out, at, b'p');
     if e < 1023 {
@@ -217,7 +217,7 @@ fn unit(e: u64) -> u8
 
 // What stands before the point.
 fn lead(out: &mut [u8], at: usize, e: u64) -> usize
-    ensures { λ r. ⌜ (r ≤ length (now (out .exit))) × (Adds (now (out .entry)) at (leadOf e) (now (out .exit)) r) ⌝ }
+    ensures { λ r. ⌜ Says (now (out .entry)) at (leadOf e) (now (out .exit)) r ⌝ }
 {
     let a = put(out, at, b'0');
     let b = put(out, a, b'x');
@@ -226,7 +226,7 @@ fn lead(out: &mut [u8], at: usize, e: u64) -> usize
 
 // A double as C's %a writes it.
 pub fn hex(out: &mut [u8], at: usize, n: u64) -> usize
-    ensures { λ r. ⌜ (r ≤ length (now (out .exit))) × (Adds (now (out .entry)) at (hexOf n) (now (out .exit)) r) ⌝ }
+    ensures { λ r. ⌜ Says (now (out .entry)) at (hexOf n) (now (out .exit)) r ⌝ }
 {
     let e = n / 4503599627370496 % 2048;
     let f = n % 4503599627370496;
@@ -275,7 +275,7 @@ fn is_whole(n: u64) -> bool
 
 // The plain digits of a double that has them, in brackets.
 fn digits_too(out: &mut [u8], at: usize, n: u64) -> usize
-    ensures { λ r. ⌜ (r ≤ length (now (out .exit))) × (Adds (now (out .entry)) at (digitsToo n) (now (out .exit)) r) ⌝ }
+    ensures { λ r. ⌜ Says (now (out .entry)) at (digitsToo n) (now (out .exit)) r ⌝ }
 {
     if !is_whole(n) {
         return none(out, at);
@@ -289,7 +289,7 @@ fn digits_too(out: &mut [u8], at: usize, n: u64) -> usize
 
 // A double: exactly, and in plain digits too where it is a whole number below 2^53.
 pub fn double(out: &mut [u8], at: usize, n: u64) -> usize
-    ensures { λ r. ⌜ (r ≤ length (now (out .exit))) × (Adds (now (out .entry)) at (doubleOf n) (now (out .exit)) r) ⌝ }
+    ensures { λ r. ⌜ Says (now (out .entry)) at (doubleOf n) (now (out .exit)) r ⌝ }
 {
     let k = hex(out, at, n);
     digits_too(out, k, n)

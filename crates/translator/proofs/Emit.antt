@@ -151,8 +151,8 @@ pub behind : {code : List Entry} {end start : ℕ} {o o₁ : List ℕ} → Emitt
 behind f = omega (arith, f .starts)
 
 -- how far it is from before a body, and from before what says that it applies, to behind it
-pub past-body : {code : List Entry} {end start : ℕ} {o o₁ : List ℕ} (n : ℕ) → Emitted code end o o₁ start → end - start + 1 + n ≡ length code + suc n
-past-body n f = let e = behind f in omega (arith, e)
+pub past-body : {code : List Entry} {end start k : ℕ} {o o₁ : List ℕ} (n : ℕ) → Emitted code end o o₁ start → k ≡ end - start + suc n → k ≡ length code + suc n
+past-body n f g = let e = behind f in omega (arith, e, g)
 
 pub past-both : {xs ys : List Entry} {end mid start : ℕ} {o o₁ o₂ : List ℕ} → Emitted ys end o o₁ mid → Emitted xs mid o₁ o₂ start → end - start ≡ length xs + length ys
 past-both f g = omega (arith, f .starts, g .starts)

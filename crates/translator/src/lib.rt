@@ -10,7 +10,7 @@ use value::Function;
 ghost use mathlib.Core.Path.{_≡_};
 ghost use mathlib.Core.Bool.{true, false};
 ghost use mathlib.Core.List.{[], _∷_};
-ghost use Prim.Native.Nat.{_+_, _*_, _-_, _<_, _≤_};
+ghost use Prim.Native.Nat.{suc, _+_, _*_, _-_, _<_, _≤_};
 ghost use lib.ListN.{length, set, replicate};
 ghost use Rattle.meaning.specs.Meaning.{overRules, overPolicies};
 ghost use Rattle.meaning.specs.Reading.{matchAt, comparisonAt, effectOf, rulesBy, policiesBy, bookOf};
@@ -406,6 +406,14 @@ fn obligations(book: &[u8], i: usize, left: usize, out: &mut [u64], end: usize) 
     single(out, mid, OBLIGE, effect + 2 * n as usize)
 }
 
+// How far it is from `start` to behind the entry that stands at `end`, and n more.
+fn beyond(start: usize, end: usize, n: usize) -> usize
+    requires { ⌜ (start ≤ end) × (end + n ≤ 16384) ⌝ }
+    ensures { λ r. ⌜ r ≡ end - start + suc n ⌝ }
+{
+    end - start + 1 + n
+}
+
 // Below an only-one set a child says that it applies.
 fn applies(up: usize, n: usize, out: &mut [u64], end: usize) -> usize
     requires { ⌜ (length (codeApplies (isOnly (overPolicies (policiesBy up))) n) ≤ end) × (n ≤ 16384) ⌝ }
@@ -449,7 +457,8 @@ fn tree(book: &[u8], i: usize, s: usize, up: usize, n: usize, out: &mut [u64], e
 {
     let foot = single(out, end, LEAVE, n);
     let low = body(book, i, s, out, foot);
-    let mid = applies(up, foot - low + 1 + n, out, low);
+    let away = beyond(low, foot, n);
+    let mid = applies(up, away, out, low);
     let head = target(book, i + 1, s - 1, foot - mid, out, mid);
     single(out, head, ENTER, algorithm_code(book, i))
 }

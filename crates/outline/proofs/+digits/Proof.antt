@@ -1,3 +1,6 @@
+use Rattle.outline.proofs.Laws.{then, as-is, digits-zero, digits-last, digits-more}
+use native.Mathlib.Omega.{arith}
+use borrow.Author.Needs.{needs}
 use Prim.Native.Nat.{ℕ, _<_}
 use borrow.Fn.Kinds.{In}
 use borrow.Fn.PlainCycle.{Measures, is, falls, and}
@@ -10,7 +13,7 @@ use Rattle.outline.proofs.+digits.{statement}
 use Rattle.outline.proofs.+digits.Tie.{close}
 
 abbrev μ-digits : Measures 1 digits-kinds.ps ℕ
-μ-digits κs a = ?
+μ-digits κs a = a .1 .1 .1 .0
 
 abbrev digits-at : ℕ → In 1 digits-kinds.ps
 digits-at t = and 1 digits-kinds.ps (is 1 digits-kinds.ps μ-digits t) digits.Pre
@@ -18,169 +21,53 @@ digits-at t = and 1 digits-kinds.ps (is 1 digits-kinds.ps μ-digits t) digits.Pr
 abbrev digits-below : ℕ → In 1 digits-kinds.ps
 digits-below t = and 1 digits-kinds.ps (falls 1 digits-kinds.ps _<_ μ-digits t) digits.Pre
 
--- src/lib.rt:67:29
-digits-digit-requires : (t : ℕ) → digits-lts.Need-digit-requires (
-  digit-reads.Asked,
-  digit-reads.Learnt,
-  put-reads.Asked,
-  put-reads.Learnt,
-  digits-below t,
-  digits.Post,
-) (digits-at t) digits.Post
-digits-digit-requires t c κs = ?
+abbrev digits-calls : ℕ → digits-lts.Claims
+digits-calls t = (digit-reads.Asked, digit-reads.Learnt, put-reads.Asked, put-reads.Learnt, digits-below t, digits.Post)
 
--- src/lib.rt:67:9
-digits-put-requires : (t : ℕ) → digits-lts.Need-put-requires (
-  digit-reads.Asked,
-  digit-reads.Learnt,
-  put-reads.Asked,
-  put-reads.Learnt,
-  digits-below t,
-  digits.Post,
-) (digits-at t) digits.Post
-digits-put-requires t c κs = ?
+digits-digit-requires : (t : ℕ) → digits-lts.Need-digit-requires (digits-calls t) (digits-at t) digits.Post
+digits-digit-requires t c κs = search needs
 
--- src/lib.rt:67:9
-digits-same-length : (t : ℕ) → digits-lts.Need-same-length (
-  digit-reads.Asked,
-  digit-reads.Learnt,
-  put-reads.Asked,
-  put-reads.Learnt,
-  digits-below t,
-  digits.Post,
-) (digits-at t) digits.Post
-digits-same-length t c = ?
+digits-put-requires : (t : ℕ) → digits-lts.Need-put-requires (digits-calls t) (digits-at t) digits.Post
+digits-put-requires t c κs = search needs
 
--- src/lib.rt:67:9
-digits-returns : (t : ℕ) → digits-lts.Need-returns (
-  digit-reads.Asked,
-  digit-reads.Learnt,
-  put-reads.Asked,
-  put-reads.Learnt,
-  digits-below t,
-  digits.Post,
-) (digits-at t) digits.Post
-digits-returns t c = ?
+digits-same-length : (t : ℕ) → digits-lts.Need-same-length (digits-calls t) (digits-at t) digits.Post
+digits-same-length t c = search needs
 
--- src/lib.rt:70:29
-digits-digit-requires-2 : (t : ℕ) → digits-lts.Need-digit-requires-2 (
-  digit-reads.Asked,
-  digit-reads.Learnt,
-  put-reads.Asked,
-  put-reads.Learnt,
-  digits-below t,
-  digits.Post,
-) (digits-at t) digits.Post
-digits-digit-requires-2 t c κs = ?
+digits-returns : (t : ℕ) → digits-lts.Need-returns (digits-calls t) (digits-at t) digits.Post
+digits-returns t c = as-is (digits-zero _ _ (c .before .before .before .before .before .if1 .taken) (c .before .before .before .digit .ensures)) (c .before .before .put .ensures)
 
--- src/lib.rt:70:9
-digits-put-requires-2 : (t : ℕ) → digits-lts.Need-put-requires-2 (
-  digit-reads.Asked,
-  digit-reads.Learnt,
-  put-reads.Asked,
-  put-reads.Learnt,
-  digits-below t,
-  digits.Post,
-) (digits-at t) digits.Post
-digits-put-requires-2 t c κs = ?
+digits-digit-requires-2 : (t : ℕ) → digits-lts.Need-digit-requires-2 (digits-calls t) (digits-at t) digits.Post
+digits-digit-requires-2 t c κs = search needs
 
--- src/lib.rt:70:9
-digits-same-length-2 : (t : ℕ) → digits-lts.Need-same-length-2 (
-  digit-reads.Asked,
-  digit-reads.Learnt,
-  put-reads.Asked,
-  put-reads.Learnt,
-  digits-below t,
-  digits.Post,
-) (digits-at t) digits.Post
-digits-same-length-2 t c = ?
+digits-put-requires-2 : (t : ℕ) → digits-lts.Need-put-requires-2 (digits-calls t) (digits-at t) digits.Post
+digits-put-requires-2 t c κs = search needs
 
--- src/lib.rt:70:9
-digits-returns-2 : (t : ℕ) → digits-lts.Need-returns-2 (
-  digit-reads.Asked,
-  digit-reads.Learnt,
-  put-reads.Asked,
-  put-reads.Learnt,
-  digits-below t,
-  digits.Post,
-) (digits-at t) digits.Post
-digits-returns-2 t c = ?
+digits-same-length-2 : (t : ℕ) → digits-lts.Need-same-length-2 (digits-calls t) (digits-at t) digits.Post
+digits-same-length-2 t c = search needs
 
--- src/lib.rt:72:37
-digits-sub-digits : (t : ℕ) → digits-lts.Need-sub-digits (
-  digit-reads.Asked,
-  digit-reads.Learnt,
-  put-reads.Asked,
-  put-reads.Learnt,
-  digits-below t,
-  digits.Post,
-) (digits-at t) digits.Post
-digits-sub-digits t c = ?
+digits-returns-2 : (t : ℕ) → digits-lts.Need-returns-2 (digits-calls t) (digits-at t) digits.Post
+digits-returns-2 t c = as-is (digits-last _ _ (c .before .before .before .before .before .if2 .taken) (c .before .before .before .digit2 .ensures)) (c .before .before .put2 .ensures)
 
--- src/lib.rt:72:9
-digits-digits-requires : (t : ℕ) → digits-lts.Need-digits-requires (
-  digit-reads.Asked,
-  digit-reads.Learnt,
-  put-reads.Asked,
-  put-reads.Learnt,
-  digits-below t,
-  digits.Post,
-) (digits-at t) digits.Post
-digits-digits-requires t c κs = ?
+digits-sub-digits : (t : ℕ) → digits-lts.Need-sub-digits (digits-calls t) (digits-at t) digits.Post
+digits-sub-digits t c = search needs
 
--- src/lib.rt:73:17
-digits-digit-requires-3 : (t : ℕ) → digits-lts.Need-digit-requires-3 (
-  digit-reads.Asked,
-  digit-reads.Learnt,
-  put-reads.Asked,
-  put-reads.Learnt,
-  digits-below t,
-  digits.Post,
-) (digits-at t) digits.Post
-digits-digit-requires-3 t c κs = ?
+digits-digits-requires : (t : ℕ) → digits-lts.Need-digits-requires (digits-calls t) (digits-at t) digits.Post
+digits-digits-requires t c κs = (search needs, tt)
 
--- src/lib.rt:73:5
-digits-put-requires-3 : (t : ℕ) → digits-lts.Need-put-requires-3 (
-  digit-reads.Asked,
-  digit-reads.Learnt,
-  put-reads.Asked,
-  put-reads.Learnt,
-  digits-below t,
-  digits.Post,
-) (digits-at t) digits.Post
-digits-put-requires-3 t c κs = ?
+digits-digit-requires-3 : (t : ℕ) → digits-lts.Need-digit-requires-3 (digits-calls t) (digits-at t) digits.Post
+digits-digit-requires-3 t c κs = search needs
 
--- src/lib.rt:63:1
-digits-same-length-3 : (t : ℕ) → digits-lts.Need-same-length-3 (
-  digit-reads.Asked,
-  digit-reads.Learnt,
-  put-reads.Asked,
-  put-reads.Learnt,
-  digits-below t,
-  digits.Post,
-) (digits-at t) digits.Post
-digits-same-length-3 t c = ?
+digits-put-requires-3 : (t : ℕ) → digits-lts.Need-put-requires-3 (digits-calls t) (digits-at t) digits.Post
+digits-put-requires-3 t c κs = search needs
 
--- src/lib.rt:63:1
-digits-returns-3 : (t : ℕ) → digits-lts.Need-returns-3 (
-  digit-reads.Asked,
-  digit-reads.Learnt,
-  put-reads.Asked,
-  put-reads.Learnt,
-  digits-below t,
-  digits.Post,
-) (digits-at t) digits.Post
-digits-returns-3 t c = ?
+digits-same-length-3 : (t : ℕ) → digits-lts.Need-same-length-3 (digits-calls t) (digits-at t) digits.Post
+digits-same-length-3 t c = search needs
+
+digits-returns-3 : (t : ℕ) → digits-lts.Need-returns-3 (digits-calls t) (digits-at t) digits.Post
+digits-returns-3 t c = as-is (digits-more _ _ (c .before .before .before .before .before .before .before .before .before .before .if1 .left) (c .before .before .before .before .before .before .before .before .before .if2 .left) (c .before .before .before .digit3 .ensures)) (then (c .before .before .before .before .before .before .before .digits .ensures) (c .before .before .put3 .ensures))
 
 pub +digits-spec : {M : Type 1} → statement M
-+digits-spec = close μ-digits λ t. digits-lts.spec (
-  digit-reads.Asked,
-  digit-reads.Learnt,
-  put-reads.Asked,
-  put-reads.Learnt,
-  digits-below t,
-  digits.Post,
-)
++digits-spec = close μ-digits λ t. digits-lts.spec (digits-calls t)
     (digits-at t)
     digits.Post
     (digits-digit-requires t)

@@ -1,3 +1,6 @@
+use Rattle.outline.proofs.Laws.{halved-none, halved-odd, halved-even}
+use native.Mathlib.Omega.{arith}
+use borrow.Author.Needs.{needs}
 use Prim.Native.Nat.{ℕ, _<_}
 use borrow.Fn.Kinds.{In}
 use borrow.Fn.PlainCycle.{Measures, is, falls, and}
@@ -8,7 +11,7 @@ use Rattle.outline.proofs.+halved.{statement}
 use Rattle.outline.proofs.+halved.Tie.{close}
 
 abbrev μ-halved : Measures 0 halved-kinds.ps ℕ
-μ-halved κs a = ?
+μ-halved κs a = a .0
 
 abbrev halved-at : ℕ → In 0 halved-kinds.ps
 halved-at t = and 0 halved-kinds.ps (is 0 halved-kinds.ps μ-halved t) halved.Pre
@@ -16,31 +19,26 @@ halved-at t = and 0 halved-kinds.ps (is 0 halved-kinds.ps μ-halved t) halved.Pr
 abbrev halved-below : ℕ → In 0 halved-kinds.ps
 halved-below t = and 0 halved-kinds.ps (falls 0 halved-kinds.ps _<_ μ-halved t) halved.Pre
 
--- src/lib.rt:244:9
 halved-returns :
     (t : ℕ) → halved-lts.Need-returns (halved-below t, halved.Post) (halved-at t) halved.Post
-halved-returns t c = ?
+halved-returns t c = halved-none _ _ (c .if1 .taken)
 
--- src/lib.rt:247:9
 halved-returns-2 :
     (t : ℕ) → halved-lts.Need-returns-2 (halved-below t, halved.Post) (halved-at t) halved.Post
-halved-returns-2 t c = ?
+halved-returns-2 t c = halved-odd _ _ (c .before .if1 .left) (c .if2 .taken)
 
--- src/lib.rt:249:12
 halved-sub-halved :
     (t : ℕ) → halved-lts.Need-sub-halved (halved-below t, halved.Post) (halved-at t) halved.Post
-halved-sub-halved t c = ?
+halved-sub-halved t c = search needs
 
--- src/lib.rt:249:5
 halved-halved-requires :
     (t : ℕ) →
     halved-lts.Need-halved-requires (halved-below t, halved.Post) (halved-at t) halved.Post
-halved-halved-requires t c κs = ?
+halved-halved-requires t c κs = (search needs, tt)
 
--- src/lib.rt:240:1
 halved-returns-3 :
     (t : ℕ) → halved-lts.Need-returns-3 (halved-below t, halved.Post) (halved-at t) halved.Post
-halved-returns-3 t c = ?
+halved-returns-3 t c = halved-even _ _ (c .before .before .if1 .left) (c .before .if2 .left) (c .halved .ensures)
 
 pub +halved-spec : {M : Type 1} → statement M
 +halved-spec =

@@ -1,3 +1,6 @@
+use Rattle.outline.proofs.Laws.{then, as-is, repeat-none, repeat-more}
+use native.Mathlib.Omega.{arith}
+use borrow.Author.Needs.{needs}
 use Prim.Native.Nat.{ℕ, _<_}
 use borrow.Fn.Kinds.{In}
 use borrow.Fn.PlainCycle.{Measures, is, falls, and}
@@ -10,7 +13,7 @@ use Rattle.outline.proofs.+repeat.{statement}
 use Rattle.outline.proofs.+repeat.Tie.{close}
 
 abbrev μ-repeat : Measures 1 repeat-kinds.ps ℕ
-μ-repeat κs a = ?
+μ-repeat κs a = a .1 .1 .1 .0
 
 abbrev repeat-at : ℕ → In 1 repeat-kinds.ps
 repeat-at t = and 1 repeat-kinds.ps (is 1 repeat-kinds.ps μ-repeat t) repeat.Pre
@@ -18,103 +21,35 @@ repeat-at t = and 1 repeat-kinds.ps (is 1 repeat-kinds.ps μ-repeat t) repeat.Pr
 abbrev repeat-below : ℕ → In 1 repeat-kinds.ps
 repeat-below t = and 1 repeat-kinds.ps (falls 1 repeat-kinds.ps _<_ μ-repeat t) repeat.Pre
 
--- src/lib.rt:49:9
-repeat-none-requires : (t : ℕ) → repeat-lts.Need-none-requires (
-  none-reads.Asked,
-  none-reads.Learnt,
-  put-reads.Asked,
-  put-reads.Learnt,
-  repeat-below t,
-  repeat.Post,
-) (repeat-at t) repeat.Post
-repeat-none-requires t c κs = ?
+abbrev repeat-calls : ℕ → repeat-lts.Claims
+repeat-calls t = (none-reads.Asked, none-reads.Learnt, put-reads.Asked, put-reads.Learnt, repeat-below t, repeat.Post)
 
--- src/lib.rt:49:9
-repeat-same-length : (t : ℕ) → repeat-lts.Need-same-length (
-  none-reads.Asked,
-  none-reads.Learnt,
-  put-reads.Asked,
-  put-reads.Learnt,
-  repeat-below t,
-  repeat.Post,
-) (repeat-at t) repeat.Post
-repeat-same-length t c = ?
+repeat-none-requires : (t : ℕ) → repeat-lts.Need-none-requires (repeat-calls t) (repeat-at t) repeat.Post
+repeat-none-requires t c κs = search needs
 
--- src/lib.rt:49:9
-repeat-returns : (t : ℕ) → repeat-lts.Need-returns (
-  none-reads.Asked,
-  none-reads.Learnt,
-  put-reads.Asked,
-  put-reads.Learnt,
-  repeat-below t,
-  repeat.Post,
-) (repeat-at t) repeat.Post
-repeat-returns t c = ?
+repeat-same-length : (t : ℕ) → repeat-lts.Need-same-length (repeat-calls t) (repeat-at t) repeat.Post
+repeat-same-length t c = search needs
 
--- src/lib.rt:51:9
-repeat-put-requires : (t : ℕ) → repeat-lts.Need-put-requires (
-  none-reads.Asked,
-  none-reads.Learnt,
-  put-reads.Asked,
-  put-reads.Learnt,
-  repeat-below t,
-  repeat.Post,
-) (repeat-at t) repeat.Post
-repeat-put-requires t c κs = ?
+repeat-returns : (t : ℕ) → repeat-lts.Need-returns (repeat-calls t) (repeat-at t) repeat.Post
+repeat-returns t c = as-is (repeat-none _ _ (c .before .before .before .before .if1 .taken)) (c .before .before .none .ensures)
 
--- src/lib.rt:52:23
-repeat-sub-repeat : (t : ℕ) → repeat-lts.Need-sub-repeat (
-  none-reads.Asked,
-  none-reads.Learnt,
-  put-reads.Asked,
-  put-reads.Learnt,
-  repeat-below t,
-  repeat.Post,
-) (repeat-at t) repeat.Post
-repeat-sub-repeat t c = ?
+repeat-put-requires : (t : ℕ) → repeat-lts.Need-put-requires (repeat-calls t) (repeat-at t) repeat.Post
+repeat-put-requires t c κs = search needs
 
--- src/lib.rt:52:5
-repeat-repeat-requires : (t : ℕ) → repeat-lts.Need-repeat-requires (
-  none-reads.Asked,
-  none-reads.Learnt,
-  put-reads.Asked,
-  put-reads.Learnt,
-  repeat-below t,
-  repeat.Post,
-) (repeat-at t) repeat.Post
-repeat-repeat-requires t c κs = ?
+repeat-sub-repeat : (t : ℕ) → repeat-lts.Need-sub-repeat (repeat-calls t) (repeat-at t) repeat.Post
+repeat-sub-repeat t c = search needs
 
--- src/lib.rt:45:1
-repeat-same-length-2 : (t : ℕ) → repeat-lts.Need-same-length-2 (
-  none-reads.Asked,
-  none-reads.Learnt,
-  put-reads.Asked,
-  put-reads.Learnt,
-  repeat-below t,
-  repeat.Post,
-) (repeat-at t) repeat.Post
-repeat-same-length-2 t c = ?
+repeat-repeat-requires : (t : ℕ) → repeat-lts.Need-repeat-requires (repeat-calls t) (repeat-at t) repeat.Post
+repeat-repeat-requires t c κs = (search needs, tt)
 
--- src/lib.rt:45:1
-repeat-returns-2 : (t : ℕ) → repeat-lts.Need-returns-2 (
-  none-reads.Asked,
-  none-reads.Learnt,
-  put-reads.Asked,
-  put-reads.Learnt,
-  repeat-below t,
-  repeat.Post,
-) (repeat-at t) repeat.Post
-repeat-returns-2 t c = ?
+repeat-same-length-2 : (t : ℕ) → repeat-lts.Need-same-length-2 (repeat-calls t) (repeat-at t) repeat.Post
+repeat-same-length-2 t c = search needs
+
+repeat-returns-2 : (t : ℕ) → repeat-lts.Need-returns-2 (repeat-calls t) (repeat-at t) repeat.Post
+repeat-returns-2 t c = as-is (repeat-more _ _ (c .before .before .before .before .before .before .before .before .if1 .left)) (then (c .before .before .before .before .before .before .put .ensures) (c .before .before .repeat .ensures))
 
 pub +repeat-spec : {M : Type 1} → statement M
-+repeat-spec = close μ-repeat λ t. repeat-lts.spec (
-  none-reads.Asked,
-  none-reads.Learnt,
-  put-reads.Asked,
-  put-reads.Learnt,
-  repeat-below t,
-  repeat.Post,
-)
++repeat-spec = close μ-repeat λ t. repeat-lts.spec (repeat-calls t)
     (repeat-at t)
     repeat.Post
     (repeat-none-requires t)

@@ -1,3 +1,5 @@
+use mathlib.Core.Path.{sym}
+use Rattle.outline.proofs.Laws.{then, as-is}
 use borrow.Author.Needs.{needs}
 use Rattle.outline.proofs.lead.Statement.{statement}
 use Rattle.outline.proofs.lead.Tie as tie
@@ -28,7 +30,7 @@ same-length c = search needs
 
 -- src/lib.rt:219:1
 returns : tie.Need-returns
-returns c = ?
+returns c = as-is (sym (c .before .before .before .unit .ensures)) (then (c .before .before .before .before .before .before .before .before .before .before .before .put .ensures) (then (c .before .before .before .before .before .before .before .put2 .ensures) (c .before .before .put3 .ensures)))
 
 pub lead-spec : {M : Type 1} → statement M
 lead-spec =

@@ -1,3 +1,5 @@
+use mathlib.Core.Path.{refl}
+use Rattle.outline.proofs.Laws.{glyph-low, glyph-high}
 use borrow.Author.Needs.{needs}
 use Rattle.outline.proofs.letter.Statement.{statement}
 use Rattle.outline.proofs.letter.Tie as tie
@@ -14,7 +16,7 @@ add-result c = search needs
 
 -- src/lib.rt:100:9
 returns : tie.Need-returns
-returns c = ?
+returns c = glyph-low _ (c .if1 .taken) refl
 
 -- src/lib.rt:102:5
 add-result-2 : tie.Need-add-result-2
@@ -22,7 +24,7 @@ add-result-2 c = search needs
 
 -- src/lib.rt:95:1
 returns-2 : tie.Need-returns-2
-returns-2 c = ?
+returns-2 c = glyph-high _ (c .if1 .left) refl
 
 pub letter-spec : {M : Type 1} → statement M
 letter-spec = tie.close (tie.spec cast-d add-result returns add-result-2 returns-2)

@@ -1,3 +1,11 @@
+use Rattle.outline.proofs.Laws.{then, as-is, says-none, name-none, name-more}
+use Rattle.outline.specs.Outline.{Says, nameOf}
+use lib.Seq.{take-all}
+use lib.ListN.{length, take}
+use mathlib.Core.Path.{ap}
+use Prim.Native.Nat.{_≤_, _-_}
+use native.Mathlib.Omega.{arith}
+use borrow.Author.Needs.{needs}
 use Rattle.outline.proofs.name.Statement.{statement}
 use Rattle.outline.proofs.name.Tie as tie
 use Rattle.outline.proofs.name.Reads as reads
@@ -6,46 +14,46 @@ use Rattle.outline.proofs.escape.Reads as escape-reads
 use Rattle.outline.proofs.none.Reads as none-reads
 
 abbrev Inv-loop : tie.InvT-loop
-Inv-loop out₀ at w n₀ i₀ out n i = ?
+Inv-loop out₀ at w n₀ i₀ out n i = (i ≤ length w) × Says out₀ n₀ (nameOf (take i w)) out n
 
 abbrev μ-loop : tie.MeasureT-loop
-μ-loop out₀ at w n₀ i₀ out n i = ?
+μ-loop out₀ at w n₀ i₀ out n i = length w - i
 
 -- src/lib.rt:138:9
 none-requires : tie.Need-none-requires Inv-loop μ-loop
-none-requires c κs = ?
+none-requires c κs = search needs
 
 -- src/lib.rt:140:5
 loop-holds : tie.Need-loop-holds Inv-loop μ-loop
-loop-holds c = ?
+loop-holds c = (search needs, as-is (name-none _) (says-none _ _ (c .before .before .none .ensures .0)))
 
 -- src/lib.rt:141:28
 shared-slice-read-escape : tie.Need-shared-slice-read-escape Inv-loop μ-loop
-shared-slice-read-escape c = ?
+shared-slice-read-escape c = search needs
 
 -- src/lib.rt:141:9
 escape-requires : tie.Need-escape-requires Inv-loop μ-loop
-escape-requires c κs = ?
+escape-requires c κs = search needs
 
 -- src/lib.rt:142:9
 add-i : tie.Need-add-i Inv-loop μ-loop
-add-i c = ?
+add-i c = search needs
 
 -- src/lib.rt:140:5
 loop-less : tie.Need-loop-less Inv-loop μ-loop
-loop-less c = ?
+loop-less c = search needs
 
 -- src/lib.rt:140:5
 loop-again : tie.Need-loop-again Inv-loop μ-loop
-loop-again c = ?
+loop-again c = (search needs, as-is (name-more _ _ (search needs)) (then (c .before .before .before .before .before .before .loop .inv .1) (c .before .before .escape .ensures)))
 
 -- src/lib.rt:135:1
 same-length : tie.Need-same-length Inv-loop μ-loop
-same-length c = ?
+same-length c = search needs
 
 -- src/lib.rt:135:1
 returns : tie.Need-returns Inv-loop μ-loop
-returns c = ?
+returns c = as-is (ap nameOf (take-all _ _ (search needs))) (then (c .before .before .before .before .none .ensures) (c .before .loop .inv .1))
 
 pub name-spec : {M : Type 1} → statement M
 name-spec =

@@ -1,3 +1,4 @@
+use Rattle.outline.proofs.Laws.{says-put, says-full}
 use borrow.Author.Needs.{needs}
 use Rattle.outline.proofs.put.Statement.{statement}
 use Rattle.outline.proofs.put.Tie as tie
@@ -6,7 +7,7 @@ use Rattle.outline.proofs.put.Lts as lts
 
 -- src/lib.rt:25:9
 returns : tie.Need-returns
-returns c = ?
+returns c = says-full _ _ _ (c .if1 .taken)
 
 -- src/lib.rt:27:5
 slice-write-out : tie.Need-slice-write-out
@@ -22,7 +23,7 @@ same-length c = search needs
 
 -- src/lib.rt:21:1
 returns-2 : tie.Need-returns-2
-returns-2 c = ?
+returns-2 c = says-put _ _ _ (c .if1 .left)
 
 pub put-spec : {M : Type 1} → statement M
 put-spec = tie.close (tie.spec returns slice-write-out add-result same-length returns-2)

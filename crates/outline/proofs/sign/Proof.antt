@@ -1,3 +1,4 @@
+use Rattle.outline.proofs.Laws.{as-is, sign-none, sign-minus}
 use borrow.Author.Needs.{needs}
 use Rattle.outline.proofs.sign.Statement.{statement}
 use Rattle.outline.proofs.sign.Tie as tie
@@ -16,7 +17,7 @@ same-length c = search needs
 
 -- src/lib.rt:152:9
 returns : tie.Need-returns
-returns c = ?
+returns c = as-is (sign-none _ (c .before .before .before .before .if1 .taken)) (c .before .before .none .ensures)
 
 -- src/lib.rt:154:5
 put-requires : tie.Need-put-requires
@@ -28,7 +29,7 @@ same-length-2 c = search needs
 
 -- src/lib.rt:148:1
 returns-2 : tie.Need-returns-2
-returns-2 c = ?
+returns-2 c = as-is (sign-minus _ (c .before .before .before .before .if1 .left)) (c .before .before .put .ensures)
 
 pub sign-spec : {M : Type 1} → statement M
 sign-spec =

@@ -17,6 +17,7 @@ use Rattle.record.proofs.byte.Reads as byte-reads
 use Rattle.record.proofs.span_in.Reads as span-in-reads
 use Rattle.translator.proofs.algorithm_code.Reads as algorithm-code-reads
 use Rattle.translator.proofs.applies.Reads as applies-reads
+use Rattle.translator.proofs.beyond.Reads as beyond-reads
 use Rattle.translator.proofs.obligations.Reads as obligations-reads
 use Rattle.translator.proofs.rules_in.Reads as rules-in-reads
 use Rattle.translator.proofs.single.Reads as single-reads
@@ -55,7 +56,7 @@ abbrev body-calls : ℕ → body-lts.Claims
 body-calls t = (obligations-reads.Asked, obligations-reads.Learnt, single-reads.Asked, single-reads.Learnt, byte-reads.Asked, byte-reads.Learnt, trees-below t, trees.Post, rules-in-reads.Asked, rules-in-reads.Learnt)
 
 abbrev tree-calls : ℕ → tree-lts.Claims
-tree-calls t = (single-reads.Asked, single-reads.Learnt, body-below t, body.Post, applies-reads.Asked, applies-reads.Learnt, target-reads.Asked, target-reads.Learnt, algorithm-code-reads.Asked, algorithm-code-reads.Learnt)
+tree-calls t = (single-reads.Asked, single-reads.Learnt, body-below t, body.Post, beyond-reads.Asked, beyond-reads.Learnt, applies-reads.Asked, applies-reads.Learnt, target-reads.Asked, target-reads.Learnt, algorithm-code-reads.Asked, algorithm-code-reads.Learnt)
 
 abbrev trees-calls : ℕ → trees-lts.Claims
 trees-calls t = (span-in-reads.Asked, span-in-reads.Learnt, trees-below t, trees.Post, byte-reads.Asked, byte-reads.Learnt, tree-below t, tree.Post)
@@ -85,16 +86,16 @@ tree-body-requires : (t : ℕ) → tree-lts.Need-body-requires (tree-calls t) (t
 tree-body-requires t c κs = (search needs, (search needs, search needs, four-fits (tree-parts _ _ _ _ _ _ _ refl refl) (c .before .before .before .before .before .before .before .pre .1 .2) (left-by _ (c .before .before .before .single .ensures)), search needs))
 
 tree-applies-requires : (t : ℕ) → tree-lts.Need-applies-requires (tree-calls t) (tree-at t) tree.Post
-tree-applies-requires t c κs = (three-fits (tree-parts _ _ _ _ _ _ _ (past-body _ (c .before .before .before .body .ensures)) refl) (c .before .before .before .before .before .before .before .before .before .before .before .pre .1 .2) (left-by _ (c .before .before .before .before .before .before .before .single .ensures)) (c .before .before .before .body .ensures), search needs)
+tree-applies-requires t c κs = (three-fits (tree-parts _ _ _ _ _ _ _ (past-body _ (c .before .before .before .before .body .ensures) (c .before .beyond .ensures)) refl) (c .before .before .before .before .before .before .before .before .before .before .before .before .pre .1 .2) (left-by _ (c .before .before .before .before .before .before .before .before .single .ensures)) (c .before .before .before .before .body .ensures), search needs)
 
 tree-target-requires : (t : ℕ) → tree-lts.Need-target-requires (tree-calls t) (tree-at t) tree.Post
-tree-target-requires t c κs = (search needs, two-fits (tree-parts _ _ _ _ _ _ _ (past-body _ (c .before .before .before .before .before .before .before .body .ensures)) (past-both (c .before .before .before .before .before .before .before .body .ensures) (c .before .before .before .applies .ensures))) (c .before .before .before .before .before .before .before .before .before .before .before .before .before .before .before .pre .1 .2) (left-by _ (c .before .before .before .before .before .before .before .before .before .before .before .single .ensures)) (c .before .before .before .before .before .before .before .body .ensures) (c .before .before .before .applies .ensures), search needs)
+tree-target-requires t c κs = (search needs, two-fits (tree-parts _ _ _ _ _ _ _ (past-body _ (c .before .before .before .before .before .before .before .before .body .ensures) (c .before .before .before .before .before .beyond .ensures)) (past-both (c .before .before .before .before .before .before .before .before .body .ensures) (c .before .before .before .applies .ensures))) (c .before .before .before .before .before .before .before .before .before .before .before .before .before .before .before .before .pre .1 .2) (left-by _ (c .before .before .before .before .before .before .before .before .before .before .before .before .single .ensures)) (c .before .before .before .before .before .before .before .before .body .ensures) (c .before .before .before .applies .ensures), search needs)
 
 tree-single-requires-2 : (t : ℕ) → tree-lts.Need-single-requires-2 (tree-calls t) (tree-at t) tree.Post
-tree-single-requires-2 t c κs = (one-fits (tree-parts _ _ _ _ _ _ _ (past-body _ (c .before .before .before .before .before .before .before .before .before .before .before .before .body .ensures)) (past-both (c .before .before .before .before .before .before .before .before .before .before .before .before .body .ensures) (c .before .before .before .before .before .before .before .before .applies .ensures))) (c .before .before .before .before .before .before .before .before .before .before .before .before .before .before .before .before .before .before .before .before .pre .1 .2) (left-by _ (c .before .before .before .before .before .before .before .before .before .before .before .before .before .before .before .before .single .ensures)) (c .before .before .before .before .before .before .before .before .before .before .before .before .body .ensures) (c .before .before .before .before .before .before .before .before .applies .ensures) (c .before .before .before .before .target .ensures), search needs, search needs)
+tree-single-requires-2 t c κs = (one-fits (tree-parts _ _ _ _ _ _ _ (past-body _ (c .before .before .before .before .before .before .before .before .before .before .before .before .before .body .ensures) (c .before .before .before .before .before .before .before .before .before .before .beyond .ensures)) (past-both (c .before .before .before .before .before .before .before .before .before .before .before .before .before .body .ensures) (c .before .before .before .before .before .before .before .before .applies .ensures))) (c .before .before .before .before .before .before .before .before .before .before .before .before .before .before .before .before .before .before .before .before .before .pre .1 .2) (left-by _ (c .before .before .before .before .before .before .before .before .before .before .before .before .before .before .before .before .before .single .ensures)) (c .before .before .before .before .before .before .before .before .before .before .before .before .before .body .ensures) (c .before .before .before .before .before .before .before .before .applies .ensures) (c .before .before .before .before .target .ensures), search needs, search needs)
 
 tree-returns : (t : ℕ) → tree-lts.Need-returns (tree-calls t) (tree-at t) tree.Post
-tree-returns t c = five (tree-parts _ _ _ _ _ _ _ (past-body _ (c .before .before .before .before .before .before .before .before .before .before .before .before .before .before .before .body .ensures)) (past-both (c .before .before .before .before .before .before .before .before .before .before .before .before .before .before .before .body .ensures) (c .before .before .before .before .before .before .before .before .before .before .before .applies .ensures))) (left-by _ (c .before .before .before .before .before .before .before .before .before .before .before .before .before .before .before .before .before .before .before .single .ensures)) (c .before .before .before .before .before .before .before .before .before .before .before .before .before .before .before .body .ensures) (c .before .before .before .before .before .before .before .before .before .before .before .applies .ensures) (c .before .before .before .before .before .before .before .target .ensures) (entered _ (c .before .before .before .algorithm-code .ensures .0) (c .before .before .single2 .ensures))
+tree-returns t c = five (tree-parts _ _ _ _ _ _ _ (past-body _ (c .before .before .before .before .before .before .before .before .before .before .before .before .before .before .before .before .body .ensures) (c .before .before .before .before .before .before .before .before .before .before .before .before .before .beyond .ensures)) (past-both (c .before .before .before .before .before .before .before .before .before .before .before .before .before .before .before .before .body .ensures) (c .before .before .before .before .before .before .before .before .before .before .before .applies .ensures))) (left-by _ (c .before .before .before .before .before .before .before .before .before .before .before .before .before .before .before .before .before .before .before .before .single .ensures)) (c .before .before .before .before .before .before .before .before .before .before .before .before .before .before .before .before .body .ensures) (c .before .before .before .before .before .before .before .before .before .before .before .applies .ensures) (c .before .before .before .before .before .before .before .target .ensures) (entered _ (c .before .before .before .algorithm-code .ensures .0) (c .before .before .single2 .ensures))
 
 trees-returns : (t : ℕ) → trees-lts.Need-returns (trees-calls t) (trees-at t) trees.Post
 trees-returns t c = nothing (trees-none _ _ _ _ (c .if1 .taken))
@@ -140,9 +141,7 @@ pub +body+tree+trees-spec : {M : Type 1} → statement M
     tree.Post
     (tree-single-requires t)
     (tree-body-requires t)
-    (λ c. search needs)
-    (λ c. search needs)
-    (λ c. search needs)
+    (λ c κs. search needs)
     (tree-applies-requires t)
     (λ c. search needs)
     (λ c. search needs)
