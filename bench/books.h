@@ -29,8 +29,8 @@ struct dice {
 };
 unsigned roll(struct dice *dice, unsigned below);
 
-/* An accepted book of 1 to records records, and an accepted request of 0 to entries entries: few keys and few values, so
- * that they often meet. Both return the length in bytes. */
+/* An accepted book of 1 to records records, and an accepted request of 0 to entries entries: few keys and few
+ * values, so that they often meet. Both return the length in bytes. */
 size_t random_book(uint8_t *book, size_t records, struct dice *dice);
 size_t random_request(uint8_t *request, size_t entries, struct dice *dice);
 

@@ -1,7 +1,7 @@
-/* Programmes counted: entries for each record of the book, and steps for each record that an evaluation from left to right
- * which stops early looks at. On the way, every programme and every run is checked: Bachumoi's programmes are those of plain
- * C, number for number; runs answer as plain C decides; and on damaged programmes and states both sides leave the same.
- * Run from the top of the repository; built by bench/run. */
+/* Programmes counted: entries for each record of the book, and steps for each record that an evaluation from left
+ * to right which stops early looks at. On the way, every programme and every run is checked: Bachumoi's programmes
+ * are those of plain C, number for number; runs answer as plain C decides; and on damaged programmes and states
+ * both sides leave the same. Run from the top of the repository; built by bench/run. */
 #include "machine.h"
 #include "plain.h"
 
@@ -152,14 +152,15 @@ static void damage(uint64_t *numbers, size_t count)
     }
 }
 
-/* Spoils some entries: another function, a literal that is no finite double, a way that leads just to the end or beyond. */
+/* Spoils some entries: another function, a literal that is no finite double, a way that leads just to the end or
+ * beyond. */
 static void damage_entries(void)
 {
     for (unsigned left = roll(&dice, 6); left > 0; left--) {
         size_t place = roll(&dice, (unsigned)programme.length), behind = programme.length - place - 1;
         uint64_t *entry = &programme.entries[place];
-        unsigned is = *entry & 15, further = is == 1 ? 2 : is == 2 ? 1 : 0, way = is == 1 ? 43 : is == 2 ? 40 : is == 5 ? 5 : 4;
-        unsigned how = roll(&dice, 3);
+        unsigned is = *entry & 15, further = is == 1 ? 2 : is == 2 ? 1 : 0, how = roll(&dice, 3);
+        unsigned way = is == 1 ? 43 : is == 2 ? 40 : is == 5 ? 5 : 4; /* the bit where it begins */
         if (how == 0)
             *entry = (*entry & ~(uint64_t)0x70) | (uint64_t)roll(&dice, 8) << 4;
         else if (how == 1 && behind >= 1)
@@ -190,9 +191,10 @@ static void tick_alike(size_t request_len, const struct state *before, uint64_t 
     static uint16_t outs[2][BACHUMOI_PLACES];
     uint64_t numbers[2];
     for (unsigned i = 0; i < 2; i++) {
+        const struct machine *machine = i == 0 ? &plain_machine : proved_machine;
         states[i] = *before;
         memset(outs[i], 0xEE, sizeof outs[i]);
-        numbers[i] = tick(i == 0 ? &plain_machine : proved_machine, &programme, request, request_len, &states[i], budget, outs[i]);
+        numbers[i] = tick(machine, &programme, request, request_len, &states[i], budget, outs[i]);
     }
     if (numbers[0] != numbers[1] || memcmp(&states[0], &states[1], sizeof states[0]) != 0 ||
         memcmp(outs[0], outs[1], sizeof outs[0]) != 0)

@@ -85,7 +85,8 @@ static void growth(struct input in, uint8_t *book, uint8_t *request)
         }
 }
 
-/* The deepest stack of a side over every book of depth 16 that deep_book makes; in is left with the book that takes it. */
+/* The deepest stack of a side over every book of depth 16 that deep_book makes; in is left with the book that
+ * takes it. */
 static size_t deepest(struct input *in, uint8_t *book, side *of)
 {
     static const unsigned first[] = { [SETS] = 16, [CONDITIONS] = 0, [POLICY_TARGET] = 12, [RULE_TARGET] = 11 };

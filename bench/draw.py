@@ -1,22 +1,21 @@
 #!/usr/bin/env python3
 """Draws how the measured times grow: draw.py FIGURES.tsv PICTURE.svg (bench/run --draw calls it).
 
-Left by the records of the book, right by the entries of the request; both axes logarithmic. Bachumoi is drawn solid, plain C
-dashed, each thing in a colour of its own.
+Left by the records of the book, right by the entries of the request; both axes logarithmic. Bachumoi is drawn solid,
+plain C dashed, each thing in a colour of its own.
 """
 import math
 import sys
 
 COLOURS = {"judge": "#6b6b6b", "translate": "#0072b2", "decide": "#d55e00", "run": "#00825f", "tick of 0": "#b0528a",
            "step": "#2b8fc9"}
-NAMES = {"judge": "judge", "translate": "translate", "decide": "decide", "run": "whole run", "tick of 0": "tick of 0 steps",
-         "step": "a step"}
+NAMES = {"run": "whole run", "tick of 0": "tick of 0 steps", "step": "a step"}
 WIDTH, HEIGHT, TOP, BOTTOM = 990, 470, 74, 64
 PANEL = 320                                 # width of a panel; its labels stand to the right of it
 
 
 def read(path):
-    """Rows of the growing books: (what, records, entries) to (plain C, Bachumoi), in nanoseconds; Bachumoi may be None."""
+    """Rows of the growing books: (what, records, entries) to nanoseconds of plain C and, if there are any, of Bachumoi."""
     rows = {}
     with open(path) as file:
         for line in file:
@@ -71,7 +70,8 @@ class Panel:
         at = -math.inf
         for value, what in sorted(ends, reverse=True):
             at = max(self.y(value) + 4, at + 15)
-            yield f'<text x="{self.left + PANEL + 10}" y="{at:.1f}" fill="{COLOURS[what]}">{NAMES[what]}</text>'
+            x, name = self.left + PANEL + 10, NAMES.get(what, what)
+            yield f'<text x="{x}" y="{at:.1f}" fill="{COLOURS[what]}">{name}</text>'
 
     def draw(self, title, below, series):
         yield from self.axes(title, below)
@@ -96,9 +96,11 @@ def picture(rows):
     yield ("<style>.title{font-size:14px;font-weight:bold}.grid{stroke:#ddd}"
            ".line{fill:none;stroke-width:2;stroke-linejoin:round}</style>")
     yield f'<rect width="{WIDTH}" height="{HEIGHT}" fill="#fff"/>'
-    yield '<text x="70" y="28">Time of one call, medians of one run of bench/run. Solid: Bachumoi. Dashed: plain C, gcc -O2.</text>'
-    yield from Panel(70, (10, 100, 1000), decades).draw("A book grows", "records of the book; requests of 8 entries", left)
-    yield from Panel(530, (1, 8, 64), decades).draw("A request grows", "entries of the request; book of 1,000 records", right)
+    yield ('<text x="70" y="28">Time of one call, medians of one run of bench/run. '
+           'Solid: Bachumoi. Dashed: plain C, gcc -O2.</text>')
+    book, request = Panel(70, (10, 100, 1000), decades), Panel(530, (1, 8, 64), decades)
+    yield from book.draw("A book grows", "records of the book; requests of 8 entries", left)
+    yield from request.draw("A request grows", "entries of the request; book of 1,000 records", right)
     yield "</svg>"
 
 

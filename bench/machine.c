@@ -73,7 +73,8 @@ uint64_t run(const struct machine *machine, const struct programme *programme, c
     *steps = 0;
     for (;;) {
         uint64_t budget = dice ? deal(dice) : UINT64_MAX;
-        uint64_t number = tick(machine, programme, request, request_len, &state, budget, out), took = bachumoi_steps(number);
+        uint64_t number = tick(machine, programme, request, request_len, &state, budget, out);
+        uint64_t took = bachumoi_steps(number);
         *steps += took;
         switch (bachumoi_answer(number)) {
         case BACHUMOI_RUNNING:

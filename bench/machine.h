@@ -10,8 +10,8 @@
 struct machine {
     uint64_t (*translate)(const uint8_t *, size_t, uint64_t *, size_t);
     uint64_t (*fresh)(uint64_t *, size_t, uint16_t *, size_t);
-    uint64_t (*tick)(const uint64_t *, size_t, const uint8_t *, size_t, uint64_t *, size_t, uint16_t *, size_t, uint64_t,
-                     uint16_t *, size_t);
+    uint64_t (*tick)(const uint64_t *, size_t, const uint8_t *, size_t, uint64_t *, size_t, uint16_t *, size_t,
+                     uint64_t, uint16_t *, size_t);
 };
 
 extern const struct machine plain_machine;
@@ -37,9 +37,10 @@ void fresh(const struct machine *machine, struct state *state);
 uint64_t tick(const struct machine *machine, const struct programme *programme, const uint8_t *request,
               size_t request_len, struct state *state, uint64_t budget, uint16_t *out);
 
-/* Runs a request from the fresh state to its end, with steps dealt out by chance, zeros among them; without dice, all in
- * one tick. Returns what bachumoi_decide would; obligations in out, steps taken in *steps. Ends the program if a tick
- * takes other than its budget before the end, or touches out, or the run takes no step or more than there are entries. */
+/* Runs a request from the fresh state to its end, with steps dealt out by chance, zeros among them; without dice,
+ * all in one tick. Returns what bachumoi_decide would; obligations in out, steps taken in *steps. Ends the program
+ * if a tick takes other than its budget before the end, or touches out, or the run takes no step or more than
+ * there are entries. */
 uint64_t run(const struct machine *machine, const struct programme *programme, const uint8_t *request,
              size_t request_len, struct dice *dice, uint16_t *out, uint64_t *steps);
 

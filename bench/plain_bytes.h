@@ -1,5 +1,5 @@
-/* What the plain C of the benchmark shares: document 01's numbers for kinds and choices, big-endian numbers, refusals, and
- * how two values compare. */
+/* What the plain C of the benchmark shares: document 01's numbers for kinds and choices, big-endian numbers,
+ * refusals, and how two values compare. */
 #ifndef PLAIN_BYTES_H
 #define PLAIN_BYTES_H
 

@@ -7,7 +7,8 @@ enum { FRAMES = 17, LEVELS = 15, NUMBERS = 1 + FRAMES + LEVELS, PLACES = 1000, M
 
 /* What bits 0-3 of an entry say. */
 enum entry {
-    E_BEGIN, E_MATCH, E_COMPARE, E_OPEN, E_CLOSE, E_RULE, E_ENTER, E_APPLIES, E_CONCLUDE, E_OBLIGE, E_LEAVE, E_SHIFT, E_FINISH
+    E_BEGIN, E_MATCH, E_COMPARE, E_OPEN, E_CLOSE, E_RULE, E_ENTER, E_APPLIES, E_CONCLUDE, E_OBLIGE, E_LEAVE, E_SHIFT,
+    E_FINISH
 };
 
 /* The algorithms by their numbers in a programme. */
@@ -18,8 +19,8 @@ enum { WAY = 4, WAY_OF_RULE = 5, WAY_OF_COMPARE = 40, WAY_OF_MATCH = 43, WAY_OUT
 
 /* ---- Translating an accepted book -------------------------------------------------------------------------- */
 
-/* The programme so far. Entries whose way is not known yet make a chain: the way of each holds the place of the one before,
- * and 0, the place of the first entry, ends it. */
+/* The programme so far. Entries whose way is not known yet make a chain: the way of each holds the place of the
+ * one before, and 0, the place of the first entry, ends it. */
 struct pen {
     uint64_t *programme;
     size_t at;
@@ -265,7 +266,8 @@ uint64_t plain_fresh(uint64_t *numbers, size_t numbers_len, uint16_t *places, si
 
 /* ---- A step ------------------------------------------------------------------------------------------------ */
 
-/* Goes on behind an entry and so many more, with the register and the truths as they are between targets and conditions. */
+/* Goes on behind an entry and so many more, with the register and the truths as they are between targets and
+ * conditions. */
 static inline bool go_on(struct run *run, uint64_t more, unsigned reg)
 {
     run->at += 1 + more;
@@ -636,7 +638,8 @@ static inline bool step(struct run *run)
 
 /* ---- A tick ------------------------------------------------------------------------------------------------ */
 
-/* Takes at most so many steps; returns how many, or more than the budget where one meets entries outside their layout. */
+/* Takes at most so many steps; returns how many, or more than the budget where one meets entries outside their
+ * layout. */
 static uint64_t take_steps(struct run *run, uint64_t budget)
 {
     uint64_t steps = 0;

@@ -1,6 +1,6 @@
-/* Tries the plain C of the benchmark on document 01's P1 to P11, its Run line, some refusals, and the examples: decided, and
- * run as a programme.
- * Run from the top of the repository; built by bench/run. Exit status 0 if all is right, else 1. */
+/* Tries the plain C of the benchmark on document 01's P1 to P11, its Run line, some refusals, and the examples:
+ * decided, and run as a programme. Run from the top of the repository; built by bench/run. Exit status 0 if all is
+ * right, else 1. */
 #include "books.h"
 #include "machine.h"
 #include "plain.h"
@@ -159,14 +159,16 @@ static void refusals(void)
 /* The programme of book A, as docs/PROGRAMME.md has it. */
 static void programme_of_a(void)
 {
-    static const uint64_t page[13] = { 0x10, 0x16, 0x65, 0x401000722, 0x32, 0x15, 0x28, 0x229, 0x259, 0xA, 0x8, 0xB, 0xC };
+    static const uint64_t page[13] = { 0x10,  0x16,  0x65, 0x401000722, 0x32, 0x15, 0x28,
+                                       0x229, 0x259, 0xA,  0x8,         0xB,  0xC };
     static struct programme programme;
     uint16_t places[BACHUMOI_PLACES];
-    uint64_t steps = 0, refused = plain_machine.translate(book, bytes_of_text(A, book, sizeof book), programme.entries, 55);
-    size_t request_len = bytes_of_text(A_40, request, sizeof request);
-    translate(&plain_machine, book, 6 * RECORD, &programme);
+    size_t book_len = bytes_of_text(A, book, sizeof book), request_len = bytes_of_text(A_40, request, sizeof request);
+    uint64_t steps = 0, refused = plain_machine.translate(book, book_len, programme.entries, BACHUMOI_ROOM(6) - 1);
+    translate(&plain_machine, book, book_len, &programme);
     run(&plain_machine, &programme, request, request_len, NULL, places, &steps);
-    if (refused != 0x3000007FF || programme.length != 13 || memcmp(programme.entries, page, sizeof page) != 0 || steps != 12) {
+    int alike = programme.length == 13 && memcmp(programme.entries, page, sizeof page) == 0;
+    if (refused != 0x3000007FF || !alike || steps != 12) {
         printf("plain C: the programme of book A is not that of docs/PROGRAMME.md\n");
         failed = 1;
     }

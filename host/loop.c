@@ -2,11 +2,11 @@
  *
  *   loop BOOK.HEX SCRIPT
  *
- * Each write of the script becomes a request, with the readings of the model in that frame, and waits. The oldest is checked
- * with the steps that its frame has to give, over as many frames as it takes; a late frame gives none. A finished check
- * moves the valve if it is Permit and every obligation is one that this loop can do; else the command is dropped. One line is
- * printed for each write. There is no clock in it: the same book and script print the same table. host/run builds it, runs it
- * and compares the table with host/loop.table.
+ * Each write of the script becomes a request, with the readings of the model in that frame, and waits. The oldest is
+ * checked with the steps that its frame has to give, over as many frames as it takes; a late frame gives none. A
+ * finished check moves the valve if it is Permit and every obligation is one that this loop can do; else the command
+ * is dropped. One line is printed for each write. There is no clock in it: the same book and script print the same
+ * table. host/run builds it, runs it and compares the table with host/loop.table.
  */
 #include <bachumoi.h>
 
@@ -229,8 +229,8 @@ static void print_write(const struct write *write, unsigned frame, const char *d
     char list[64] = "";
     for (unsigned i = 0; i < count && i < 10; i++)
         snprintf(list + 5 * i, sizeof list - 5 * i, "%04X ", check.out[i]);
-    printf("%5u  %-8s %-8s %4.2f  %8u %5u %5u  %-14s %-20s ", write->asked, write->maker, write->channel, write->opening,
-           frame, write->ticks, (unsigned)write->steps, decision, list);
+    printf("%5u  %-8s %-8s %4.2f  ", write->asked, write->maker, write->channel, write->opening);
+    printf("%8u %5u %5u  %-14s %-20s ", frame, write->ticks, (unsigned)write->steps, decision, list);
 }
 
 /* ---- What an answer does ----------------------------------------------------------------------------------- */
@@ -341,7 +341,8 @@ static void happen(const struct event *event, struct model *m)
         stop("no such event", event->what);
 }
 
-/* The oldest writes get the steps of the frame, one after the other; in a late frame the oldest gets a tick of 0 steps. */
+/* The oldest writes get the steps of the frame, one after the other; in a late frame the oldest gets a tick of 0
+ * steps. */
 static void check_writes(unsigned frame, struct model *m)
 {
     uint64_t left = frame < late_until ? 0 : STEPS_A_FRAME;

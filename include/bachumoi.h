@@ -103,10 +103,10 @@ static inline unsigned bachumoi_part(uint64_t number)
 
 /* ---- The rig's loop: link librig.a -------------------------------------------------------------------------
  *
- * A book is translated once, into a programme. A request is then run: from the fresh state, tick by tick, each tick with
- * as many steps as its frame has time for, until a tick says which decision. All that a run knows is in its programme,
- * its request and its state; between ticks they may be kept, copied or moved as the loop likes. Each run has a state of
- * its own and the same request in all its ticks. docs/PROGRAMME.md draws the layout of programme and state.
+ * A book is translated once, into a programme. A request is then run: from the fresh state, tick by tick, each tick
+ * with as many steps as its frame has time for, until a tick says which decision. All that a run knows is in its
+ * programme, its request and its state; between ticks they may be kept, copied or moved as the loop likes. Each run has
+ * a state of its own and the same request in all its ticks. docs/PROGRAMME.md draws the layout of programme and state.
  *
  * A run takes no more steps than its programme has entries, and at least one, however they are dealt out.
  */
@@ -148,7 +148,7 @@ uint64_t bachumoi_fresh(uint64_t *numbers, size_t numbers_len, uint16_t *places,
  *   programme   programme_len numbers, exactly the entries that bachumoi_translate counted
  *   request     request_len bytes, as for bachumoi_decide
  *   numbers, places   the state, which the tick moves on: the first 33 numbers and the first 1,000 places
- *   budget      the most steps to take, from 0 to the largest number: the tick takes them all, unless the run ends sooner
+ *   budget      the most steps to take, from 0 to the largest number: it takes them all, unless the run ends sooner
  *   out         out_len places, at least BACHUMOI_PLACES, not those of the state
  *
  * The number returned is one of three.
@@ -171,10 +171,10 @@ uint64_t bachumoi_fresh(uint64_t *numbers, size_t numbers_len, uint16_t *places,
  *
  * A refusal, as of bachumoi_decide: 255 + 256 x number + 65,536 x line + 4,294,967,296 x part
  *
- *   The request is judged first (4, 2, then the first line with 5; part 2), then the output (7; part 3), then programme
- *   and state (8; part 4): no entry or over 8,008, fewer numbers or places than a state has, a first number that the
- *   layout does not allow, or a step within the budget that meets entries outside their layout. A translated programme in
- *   its own run never meets 8. No step was taken; numbers, places and out are as they were.
+ *   The request is judged first (4, 2, then the first line with 5; part 2), then the output (7; part 3), then
+ *   programme and state (8; part 4): no entry or over 8,008, fewer numbers or places than a state has, a first number
+ *   that the layout does not allow, or a step within the budget that meets entries outside their layout. A translated
+ *   programme in its own run never meets 8. No step was taken; numbers, places and out are as they were.
  *
  * So a valve may move when bachumoi_answer says BACHUMOI_PERMIT and all obligations in out can be done, and only then.
  */

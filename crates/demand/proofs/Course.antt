@@ -44,7 +44,6 @@ over-is s b e = ap (λ (c : Flat). c .head .over) e
 -- any programme whose numbers spell its entries
 module _ (p : List ℕ) (es : List Entry) (g : Bags) (same : length p ≡ length es) (long : length p ≤ 8008) (reads : Codes (fetch p) es)
     (laws : (i : ℕ) → i < length es → isFurther (getD es i further) ≡ false → lawful (length p) i (fetch p i) ≡ true) where
-
   may : (s : State) → Going es (flatOf s) → mayStep p s ≡ true
   unfolding mayStep flatOf
   may s w = laws (unpackOf (s .head) .at) (w .inside) (w .starts)

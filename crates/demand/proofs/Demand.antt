@@ -105,8 +105,7 @@ runs-right b n o w e =
     let few : length (programme x c k) ≤ 4 * recs x + 3 = short x in
     let long : length (programme x c k) ≤ 8008 = omega (arith, few, s .few, s .most) in
     let small = tree-small b w in
-    let numbers = numbers-length x c k small (omega (arith, room)) long in
-    (
+    let numbers = numbers-length x c k small (omega (arith, room)) long in (
       rw numbers (some-entry x c k),
       rw numbers (omega (arith, few, s .few)),
       λ g. course (inNumbers (programme x c k)) (programme x c k) g numbers (rw numbers long)
@@ -114,10 +113,10 @@ runs-right b n o w e =
           (decides g x) (obliges g x)
           (translated-right x g (fetch (inNumbers (programme x c k))) (codes x c k small (omega (arith, room)) long) (s .nest .1) (s .nest .0) room),
     )
+
 -- ticks
 module _ (p q : List ℕ) (m : ℕ) (asked : judgeRequestOf q ≡ request.Accepted m) (some : 0 < length p) (long : length p ≤ 8008)
     (d : Decision) (os : List ℕ) (w : Course p (bagsOf q) d os) where
-
   abbrev g : Bags
   g = bagsOf q
 

@@ -39,13 +39,16 @@ says-put l at x h =
 
 -- one piece after another
 pub then : {a b c : List ℕ} {at m r : ℕ} {xs ys : List ℕ} → Says a at xs b m → Says b m ys c r → Says a at (xs ++ ys) c r
-then {a} {b} {c} {at} {m} {r} {xs} {ys} p q = (q .0, record {
-  kept = q .1 .kept ∙ p .1 .kept;
-  said =
-    q .1 .said
-    ∙ rw (p .1 .kept, p .1 .said) (take-cut (length a) (take at a ++ xs) ys)
-    ∙ ap (take (length a)) (append-assoc (take at a) xs ys);
-})
+then {a} {b} {c} {at} {m} {r} {xs} {ys} p q = (
+  q .0,
+  record {
+    kept = q .1 .kept ∙ p .1 .kept;
+    said =
+        q .1 .said
+        ∙ rw (p .1 .kept, p .1 .said) (take-cut (length a) (take at a ++ xs) ys)
+        ∙ ap (take (length a)) (append-assoc (take at a) xs ys);
+  },
+)
 
 -- .. said in other words
 pub as-is : {a b : List ℕ} {at r : ℕ} {xs ys : List ℕ} → xs ≡ ys → Says a at xs b r → Says a at ys b r

@@ -25,7 +25,7 @@ none-requires c κs = search needs
 
 -- src/lib.rt:140:5
 loop-holds : tie.Need-loop-holds Inv-loop μ-loop
-loop-holds c = (search needs, as-is (name-none _) (says-none _ _ (c .before .before .none .ensures .0)))
+loop-holds c = (search needs, as-is (name-none (c .before .before .before .before .before .before .args .w .now)) (says-none _ _ (c .before .before .none .ensures .0)))
 
 -- src/lib.rt:141:28
 shared-slice-read-escape : tie.Need-shared-slice-read-escape Inv-loop μ-loop
@@ -45,7 +45,7 @@ loop-less c = search needs
 
 -- src/lib.rt:140:5
 loop-again : tie.Need-loop-again Inv-loop μ-loop
-loop-again c = (search needs, as-is (name-more _ _ (search needs)) (then (c .before .before .before .before .before .before .loop .inv .1) (c .before .before .escape .ensures)))
+loop-again c = (search needs, as-is (name-more (c .before .before .before .before .before .before .before .before .before .before .before .before .before .args .w .now) (c .before .before .before .before .before .before .loop .i) (search needs)) (then (c .before .before .before .before .before .before .loop .inv .1) (c .before .before .escape .ensures)))
 
 -- src/lib.rt:135:1
 same-length : tie.Need-same-length Inv-loop μ-loop
@@ -53,7 +53,7 @@ same-length c = search needs
 
 -- src/lib.rt:135:1
 returns : tie.Need-returns Inv-loop μ-loop
-returns c = as-is (ap nameOf (take-all _ _ (search needs))) (then (c .before .before .before .before .none .ensures) (c .before .loop .inv .1))
+returns c = as-is (ap nameOf (take-all (c .before .loop .i) (c .before .before .before .before .before .before .before .before .args .w .now) (search needs))) (then (c .before .before .before .before .none .ensures) (c .before .loop .inv .1))
 
 pub name-spec : {M : Type 1} → statement M
 name-spec =

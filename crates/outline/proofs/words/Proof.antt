@@ -44,7 +44,7 @@ loop-less c = search needs
 
 -- src/lib.rt:37:5
 loop-again : tie.Need-loop-again Inv-loop μ-loop
-loop-again c = (search needs, as-is (take-more _ _ (search needs)) (then (c .before .before .before .before .before .before .loop .inv .1) (c .before .before .put .ensures)))
+loop-again c = (search needs, as-is (take-more (c .before .before .before .before .before .before .before .before .before .before .before .before .before .args .w .now) (c .before .before .before .before .before .before .loop .i) (search needs)) (then (c .before .before .before .before .before .before .loop .inv .1) (c .before .before .put .ensures)))
 
 -- src/lib.rt:32:1
 same-length : tie.Need-same-length Inv-loop μ-loop
@@ -52,7 +52,7 @@ same-length c = search needs
 
 -- src/lib.rt:32:1
 returns : tie.Need-returns Inv-loop μ-loop
-returns c = as-is (take-all _ _ (search needs)) (then (c .before .before .before .before .none .ensures) (c .before .loop .inv .1))
+returns c = as-is (take-all (c .before .loop .i) (c .before .before .before .before .before .before .before .before .args .w .now) (search needs)) (then (c .before .before .before .before .none .ensures) (c .before .loop .inv .1))
 
 pub words-spec : {M : Type 1} → statement M
 words-spec =

@@ -1,0 +1,82 @@
+use native.Mathlib.Omega.{arith}
+use borrow.Author.Needs.{needs}
+use Prim.Native.Nat.{ℕ, _<_}
+use borrow.Fn.Kinds.{In}
+use borrow.Fn.PlainCycle.{Measures, is, falls, and}
+use Rattle.outline.proofs.hexes.Reads as hexes
+use Rattle.outline.proofs.hexes.Kinds as hexes-kinds
+use Rattle.outline.proofs.+hexes.Lts-hexes as hexes-lts
+use Rattle.outline.proofs.letter.Reads as letter-reads
+use Rattle.outline.proofs.none.Reads as none-reads
+use Rattle.outline.proofs.put.Reads as put-reads
+use Rattle.outline.proofs.+hexes.{statement}
+use Rattle.outline.proofs.+hexes.Tie.{close}
+
+abbrev μ-hexes : Measures 1 hexes-kinds.ps ℕ
+μ-hexes κs a = a .1 .1 .1 .0
+
+abbrev hexes-at : ℕ → In 1 hexes-kinds.ps
+hexes-at t = and 1 hexes-kinds.ps (is 1 hexes-kinds.ps μ-hexes t) hexes.Pre
+
+abbrev hexes-below : ℕ → In 1 hexes-kinds.ps
+hexes-below t = and 1 hexes-kinds.ps (falls 1 hexes-kinds.ps _<_ μ-hexes t) hexes.Pre
+
+abbrev hexes-calls : ℕ → hexes-lts.Claims
+hexes-calls t = (none-reads.Asked, none-reads.Learnt, letter-reads.Asked, letter-reads.Learnt, put-reads.Asked, put-reads.Learnt, hexes-below t, hexes.Post)
+
+hexes-none-requires : (t : ℕ) → hexes-lts.Need-none-requires (hexes-calls t) (hexes-at t) hexes.Post
+hexes-none-requires t c κs = search needs
+
+hexes-same-length : (t : ℕ) → hexes-lts.Need-same-length (hexes-calls t) (hexes-at t) hexes.Post
+hexes-same-length t c = search needs
+
+hexes-returns : (t : ℕ) → hexes-lts.Need-returns (hexes-calls t) (hexes-at t) hexes.Post
+hexes-returns t c = search needs
+
+hexes-none-requires-2 : (t : ℕ) → hexes-lts.Need-none-requires-2 (hexes-calls t) (hexes-at t) hexes.Post
+hexes-none-requires-2 t c κs = search needs
+
+hexes-same-length-2 : (t : ℕ) → hexes-lts.Need-same-length-2 (hexes-calls t) (hexes-at t) hexes.Post
+hexes-same-length-2 t c = search needs
+
+hexes-returns-2 : (t : ℕ) → hexes-lts.Need-returns-2 (hexes-calls t) (hexes-at t) hexes.Post
+hexes-returns-2 t c = search needs
+
+hexes-letter-requires : (t : ℕ) → hexes-lts.Need-letter-requires (hexes-calls t) (hexes-at t) hexes.Post
+hexes-letter-requires t c κs = search needs
+
+hexes-put-requires : (t : ℕ) → hexes-lts.Need-put-requires (hexes-calls t) (hexes-at t) hexes.Post
+hexes-put-requires t c κs = search needs
+
+hexes-mul-hexes : (t : ℕ) → hexes-lts.Need-mul-hexes (hexes-calls t) (hexes-at t) hexes.Post
+hexes-mul-hexes t c = search needs
+
+hexes-sub-hexes : (t : ℕ) → hexes-lts.Need-sub-hexes (hexes-calls t) (hexes-at t) hexes.Post
+hexes-sub-hexes t c = search needs
+
+hexes-hexes-requires : (t : ℕ) → hexes-lts.Need-hexes-requires (hexes-calls t) (hexes-at t) hexes.Post
+hexes-hexes-requires t c κs = search needs
+
+hexes-same-length-3 : (t : ℕ) → hexes-lts.Need-same-length-3 (hexes-calls t) (hexes-at t) hexes.Post
+hexes-same-length-3 t c = search needs
+
+hexes-returns-3 : (t : ℕ) → hexes-lts.Need-returns-3 (hexes-calls t) (hexes-at t) hexes.Post
+hexes-returns-3 t c = search needs
+
+pub +hexes-spec : {M : Type 1} → statement M
++hexes-spec = close μ-hexes λ t. hexes-lts.spec (hexes-calls t)
+    (hexes-at t)
+    hexes.Post
+    (hexes-none-requires t)
+    (hexes-same-length t)
+    (hexes-returns t)
+    (hexes-none-requires-2 t)
+    (hexes-same-length-2 t)
+    (hexes-returns-2 t)
+    (hexes-letter-requires t)
+    (hexes-put-requires t)
+    (hexes-mul-hexes t)
+    (hexes-sub-hexes t)
+    (hexes-hexes-requires t)
+    (hexes-same-length-3 t)
+    (hexes-returns-3 t)
