@@ -1,3 +1,4 @@
+use Rattle.outline.proofs.Laws.{then, as-is, hexes-none, hexes-end, hexes-more}
 use native.Mathlib.Omega.{arith}
 use borrow.Author.Needs.{needs}
 use Prim.Native.Nat.{ℕ, _<_}
@@ -31,7 +32,7 @@ hexes-same-length : (t : ℕ) → hexes-lts.Need-same-length (hexes-calls t) (he
 hexes-same-length t c = search needs
 
 hexes-returns : (t : ℕ) → hexes-lts.Need-returns (hexes-calls t) (hexes-at t) hexes.Post
-hexes-returns t c = search needs
+hexes-returns t c = as-is (hexes-none _ _ (c .before .before .before .before .if1 .taken)) (c .before .before .none .ensures)
 
 hexes-none-requires-2 : (t : ℕ) → hexes-lts.Need-none-requires-2 (hexes-calls t) (hexes-at t) hexes.Post
 hexes-none-requires-2 t c κs = search needs
@@ -40,7 +41,7 @@ hexes-same-length-2 : (t : ℕ) → hexes-lts.Need-same-length-2 (hexes-calls t)
 hexes-same-length-2 t c = search needs
 
 hexes-returns-2 : (t : ℕ) → hexes-lts.Need-returns-2 (hexes-calls t) (hexes-at t) hexes.Post
-hexes-returns-2 t c = search needs
+hexes-returns-2 t c = as-is (hexes-end _ _ (c .before .before .before .before .if2 .taken)) (c .before .before .none2 .ensures)
 
 hexes-letter-requires : (t : ℕ) → hexes-lts.Need-letter-requires (hexes-calls t) (hexes-at t) hexes.Post
 hexes-letter-requires t c κs = search needs
@@ -55,13 +56,13 @@ hexes-sub-hexes : (t : ℕ) → hexes-lts.Need-sub-hexes (hexes-calls t) (hexes-
 hexes-sub-hexes t c = search needs
 
 hexes-hexes-requires : (t : ℕ) → hexes-lts.Need-hexes-requires (hexes-calls t) (hexes-at t) hexes.Post
-hexes-hexes-requires t c κs = search needs
+hexes-hexes-requires t c κs = (search needs, tt)
 
 hexes-same-length-3 : (t : ℕ) → hexes-lts.Need-same-length-3 (hexes-calls t) (hexes-at t) hexes.Post
 hexes-same-length-3 t c = search needs
 
 hexes-returns-3 : (t : ℕ) → hexes-lts.Need-returns-3 (hexes-calls t) (hexes-at t) hexes.Post
-hexes-returns-3 t c = search needs
+hexes-returns-3 t c = as-is (hexes-more _ _ (c .before .before .before .before .before .before .before .before .before .before .if1 .left) (c .before .before .before .before .before .before .before .before .before .if2 .left) (c .before .before .before .before .before .before .before .letter .ensures)) (then (c .before .before .before .before .before .before .put .ensures) (c .before .before .hexes .ensures))
 
 pub +hexes-spec : {M : Type 1} → statement M
 +hexes-spec = close μ-hexes λ t. hexes-lts.spec (hexes-calls t)

@@ -1,3 +1,5 @@
+use native.Mathlib.Omega.{arith}
+use Rattle.outline.proofs.Laws.{then, as-is, integer-pos, integer-neg}
 use borrow.Author.Needs.{needs}
 use Rattle.outline.proofs.integer.Statement.{statement}
 use Rattle.outline.proofs.integer.Tie as tie
@@ -16,7 +18,7 @@ same-length c = search needs
 
 -- src/lib.rt:88:9
 returns : tie.Need-returns
-returns c = ?
+returns c = as-is (integer-pos _ (c .before .before .before .before .if1 .taken)) (c .before .before .decimal .ensures)
 
 -- src/lib.rt:90:9
 put-requires : tie.Need-put-requires
@@ -40,7 +42,7 @@ same-length-2 c = search needs
 
 -- src/lib.rt:84:1
 returns-2 : tie.Need-returns-2
-returns-2 c = ?
+returns-2 c = as-is (integer-neg _ (c .before .before .before .before .before .before .before .before .if1 .left) (omega (arith, c .before .before .before .before .before .before .before .before .if1 .left))) (then (c .before .before .before .before .before .before .put .ensures) (c .before .before .decimal2 .ensures))
 
 pub integer-spec : {M : Type 1} → statement M
 integer-spec =

@@ -1,3 +1,4 @@
+use Rattle.outline.proofs.Laws.{then, as-is, power-minus, power-plus}
 use borrow.Author.Needs.{needs}
 use Rattle.outline.proofs.power.Statement.{statement}
 use Rattle.outline.proofs.power.Tie as tie
@@ -28,7 +29,7 @@ same-length c = search needs
 
 -- src/lib.rt:202:9
 returns : tie.Need-returns
-returns c = ?
+returns c = as-is (power-minus _ (c .before .before .before .before .before .before .before .before .if1 .taken)) (then (c .before .before .before .before .before .before .before .before .before .before .before .put .ensures) (then (c .before .before .before .before .before .before .put2 .ensures) (c .before .before .decimal .ensures)))
 
 -- src/lib.rt:204:9
 put-requires-3 : tie.Need-put-requires-3
@@ -44,7 +45,7 @@ same-length-2 c = search needs
 
 -- src/lib.rt:196:1
 returns-2 : tie.Need-returns-2
-returns-2 c = ?
+returns-2 c = as-is (power-plus _ (c .before .before .before .before .before .before .before .before .if1 .left)) (then (c .before .before .before .before .before .before .before .before .before .before .before .put .ensures) (then (c .before .before .before .before .before .before .put3 .ensures) (c .before .before .decimal2 .ensures)))
 
 pub power-spec : {M : Type 1} → statement M
 power-spec =

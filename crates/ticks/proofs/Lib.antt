@@ -1,0 +1,5 @@
+pub mod Decimal
+pub mod Printed
+pub mod Few
+pub mod Fits
+pub mod Examples

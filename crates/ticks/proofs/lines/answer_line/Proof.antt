@@ -1,0 +1,82 @@
+use lib.ListN.{length-set}
+use native.Mathlib.Omega.{arith}
+use borrow.Author.Needs.{needs}
+use Rattle.ticks.proofs.Printed.{running-put, finished-put, refused-put}
+use Rattle.ticks.proofs.lines.answer_line.Statement.{statement}
+use Rattle.ticks.proofs.lines.answer_line.Tie as tie
+
+enum-told : tie.Need-enum-told
+enum-told c = search needs
+
+slice-write-out : tie.Need-slice-write-out
+slice-write-out c = search needs
+
+slice-write-out-2 : tie.Need-slice-write-out-2
+slice-write-out-2 c = simp length-set (omega arith)
+
+slice-write-out-3 : tie.Need-slice-write-out-3
+slice-write-out-3 c = simp length-set (omega arith)
+
+enum-known-answer : tie.Need-enum-known-answer
+enum-known-answer c = search needs
+
+number-requires : tie.Need-number-requires
+number-requires c κs = search needs
+
+decision-line-requires : tie.Need-decision-line-requires
+decision-line-requires c κs = search needs
+
+enum-known-answer-2 : tie.Need-enum-known-answer-2
+enum-known-answer-2 c = search needs
+
+refusal-line-requires : tie.Need-refusal-line-requires
+refusal-line-requires c κs = search needs
+
+same-length : tie.Need-same-length
+same-length c = search needs
+
+returns : tie.Need-returns
+returns c = running-put (c .before .before .before .before .args .out .now) (c .before .before .before .before .args .places .now) (c .before .before .before .before .pre .1) (c .enum-told .given .1)
+
+same-length-2 : tie.Need-same-length-2
+same-length-2 c = search needs
+
+returns-2 : tie.Need-returns-2
+returns-2 c =
+    let args = c .before .before .before .before .before .before .before .before .before .before .args in
+    let pre = c .before .before .before .before .before .before .before .before .before .before .pre in
+    let answer = c .before .before .before .before .before .before .answer in
+    let number = c .before .before .before .before .number in
+    let decision-line = c .before .before .decision-line in
+    finished-put (args .out .now) (args .places .now) (pre .1) (pre .0) (decision-line .kept .1 .1 .1 .0) _ _ (answer .given .1) (number .ensures .0) (decision-line .ensures .0) (decision-line .ensures .1)
+
+same-length-3 : tie.Need-same-length-3
+same-length-3 c = search needs
+
+returns-3 : tie.Need-returns-3
+returns-3 c =
+    let args = c .before .before .before .before .before .before .before .before .before .args in
+    let pre = c .before .before .before .before .before .before .before .before .before .pre in
+    let answer2 = c .before .before .before .before .before .answer2 in
+    let refusal-line = c .before .before .refusal-line in
+    refused-put (args .out .now) (args .places .now) (pre .1) (pre .0) (refusal-line .kept .1 .0) _ (answer2 .given .1) (refusal-line .ensures .0) (refusal-line .ensures .1)
+
+pub answer-line-spec : {M : Type 1} → statement M
+answer-line-spec =
+    tie.close
+    (tie.spec
+    enum-told
+    slice-write-out
+    slice-write-out-2
+    slice-write-out-3
+    enum-known-answer
+    number-requires
+    decision-line-requires
+    enum-known-answer-2
+    refusal-line-requires
+    same-length
+    returns
+    same-length-2
+    returns-2
+    same-length-3
+    returns-3)

@@ -1,0 +1,44 @@
+// What a tick prints: the steps that it took, and its answer.
+use run::kinds::Answer;
+ghost use mathlib.Core.Path.{_≡_};
+ghost use Prim.Native.Nat.{_<_, _≤_};
+ghost use lib.ListN.{length, take};
+ghost use Rattle.record.specs.Bytes.{mostRecords};
+ghost use Rattle.ticks.specs.Lines.{longest, stepsOf, answerLine};
+
+// The steps, and a space.
+pub fn steps_digits(steps: u64) -> [u8; 5]
+    requires { ⌜ steps < 65536 ⌝ }
+    ensures { λ r. ⌜ r ≡ stepsOf steps ⌝ }
+{
+    let n = steps as usize;
+    [
+        text::letter(n / 4096),
+        text::letter(n / 256),
+        text::letter(n / 16),
+        text::letter(n),
+        b' ',
+    ]
+}
+
+// Puts the line of an answer first into `out`, and answers its length. `places` holds the obligations.
+pub fn answer_line(answer: Answer, places: &[u16], out: &mut [u8]) -> usize
+    requires { ⌜ (length (now places) ≤ mostRecords) × (longest ≤ length (now out)) ⌝ }
+    ensures { λ r. ⌜ (r ≤ length (now (out .exit))) × (take r (now (out .exit)) ≡ answerLine answer (now (places .entry))) ⌝ }
+{
+    match answer {
+        Answer::Running => {
+            out[0] = b'0';
+            out[1] = b'0';
+            out[2] = text::LF;
+            3
+        }
+        Answer::Finished(decision, count) => line::decision_line(
+            meaning::number(decision),
+            places,
+            count as usize,
+            out,
+        ),
+        Answer::Refused(refusal) => line::refusal_line(refusal, out),
+    }
+}
