@@ -260,6 +260,354 @@ fn print_first(book: &[u8], n: usize)
     }
 }
 
+// What breaks a field rule in a record whose kind and choice are in no row of the table.
+fn kind_words(k: usize, out: &mut [u8], at: usize) -> usize
+    ensures { λ r. ⌜ r ≤ length (now (out .exit)) ⌝ }
+{
+    if k == 0 {
+        return words(out, at, b"byte 0 is no kind, 1 to 8");
+    }
+    if 8 < k {
+        return words(out, at, b"byte 0 is no kind, 1 to 8");
+    }
+    words(out, at, b"byte 1 is no choice of its kind")
+}
+
+// .. in a record that uses no byte but kind, choice and span, the span being at least s.
+fn plain_words(book: &[u8], i: usize, s: usize, out: &mut [u8], at: usize) -> usize
+    requires { ⌜ (i + 1) * size ≤ length (now book) ⌝ }
+    ensures { λ r. ⌜ r ≤ length (now (out .exit)) ⌝ }
+{
+    if record::span(book, i) == 0 {
+        return words(out, at, b"its span, bytes 2 and 3, is 0");
+    }
+    if record::span(book, i) < s {
+        return words(out, at, b"its span is below 2, and something must stand below it");
+    }
+    words(out, at, b"a byte that its kind does not use, of 4 to 15, is not zero")
+}
+
+// .. in a section.
+fn section_words(book: &[u8], i: usize, out: &mut [u8], at: usize) -> usize
+    requires { ⌜ (i + 1) * size ≤ length (now book) ⌝ }
+    ensures { λ r. ⌜ r ≤ length (now (out .exit)) ⌝ }
+{
+    let c = record::byte(book, i, 4);
+    if c == 0 {
+        return words(out, at, b"byte 4 is no category, 1 to 4");
+    }
+    if 4 < c {
+        return words(out, at, b"byte 4 is no category, 1 to 4");
+    }
+    if record::span(book, i) < 2 {
+        return words(out, at, b"its span is below 2, and something must stand below it");
+    }
+    words(out, at, b"a byte that its kind does not use, of 5 to 15, is not zero")
+}
+
+// .. in a match or a comparison.
+fn compares_words(book: &[u8], i: usize, out: &mut [u8], at: usize) -> usize
+    requires { ⌜ (i + 1) * size ≤ length (now book) ⌝ }
+    ensures { λ r. ⌜ r ≤ length (now (out .exit)) ⌝ }
+{
+    let c = record::byte(book, i, 4);
+    if c == 0 {
+        return words(out, at, b"byte 4 is no category, 1 to 4");
+    }
+    if 4 < c {
+        return words(out, at, b"byte 4 is no category, 1 to 4");
+    }
+    if record::span(book, i) != 1 {
+        return words(out, at, b"its span is not 1, and nothing stands below it");
+    }
+    match fields::type_at(book, i) {
+        Sort::Integer => words(out, at, b"a field rule of an integer"),
+        Sort::Name => words(out, at, b"a name is compared by equal alone"),
+        Sort::Double => words(out, at, b"its double is not finite"),
+        Sort::Other => words(out, at, b"byte 5 is no type, 1 to 3, or 129 to 131"),
+    }
+}
+
+// .. in an obligation.
+fn obligation_words(book: &[u8], i: usize, out: &mut [u8], at: usize) -> usize
+    requires { ⌜ (i + 1) * size ≤ length (now book) ⌝ }
+    ensures { λ r. ⌜ r ≤ length (now (out .exit)) ⌝ }
+{
+    if record::span(book, i) != 1 {
+        return words(out, at, b"its span is not 1, and nothing stands below it");
+    }
+    words(out, at, b"a byte that its kind does not use, of 4, 5 and 8 to 15, is not zero")
+}
+
+// The field rule that record i breaks, in words.
+fn field_words(book: &[u8], i: usize, out: &mut [u8], at: usize) -> usize
+    requires { ⌜ (i + 1) * size ≤ length (now book) ⌝ }
+    ensures { λ r. ⌜ r ≤ length (now (out .exit)) ⌝ }
+{
+    match fields::kind_at(book, i) {
+        Kind::PolicySet => plain_words(book, i, 1, out, at),
+        Kind::Policy => plain_words(book, i, 1, out, at),
+        Kind::Rule => plain_words(book, i, 1, out, at),
+        Kind::Section => section_words(book, i, out, at),
+        Kind::Conjunction => plain_words(book, i, 2, out, at),
+        Kind::Match => compares_words(book, i, out, at),
+        Kind::Logic => plain_words(book, i, 1, out, at),
+        Kind::Not => plain_words(book, i, 2, out, at),
+        Kind::Comparison => compares_words(book, i, out, at),
+        Kind::Obligation => obligation_words(book, i, out, at),
+        Kind::Nothing => kind_words(record::byte(book, i, 0), out, at),
+    }
+}
+
+// The parent of record i: the innermost earlier record whose span covers it.
+fn parent(book: &[u8], i: usize) -> usize
+    requires { ⌜ (i + 1) * size ≤ length (now book) ⌝ }
+    ensures { λ r. ⌜ (r ≡ parentOf (now (book .entry)) i) × (r ≤ i) ⌝ }
+{
+    let mut p: usize = 0;
+    let mut j: usize = 0;
+    while j < i {
+        if i < j + record::span(book, j) {
+            p = j;
+        }
+        j += 1;
+    }
+    p
+}
+
+// The place rule that line 1 breaks, in words.
+fn top_words(book: &[u8], out: &mut [u8], at: usize) -> usize
+    requires { ⌜ size ≤ length (now book) ⌝ }
+    ensures { λ r. ⌜ r ≤ length (now (out .exit)) ⌝ }
+{
+    if 2 < record::byte(book, 0, 0) {
+        return words(out, at, b"line 1 is no policy set and no policy");
+    }
+    words(out, at, b"its span is not the number of records")
+}
+
+// Why a parent whose kind is p does not allow at that place a record whose kind is k, in words.
+fn child_words(p: usize, k: usize, out: &mut [u8], at: usize) -> usize
+    ensures { λ r. ⌜ r ≤ length (now (out .exit)) ⌝ }
+{
+    if k == 4 {
+        if p < 4 {
+            return words(out, at, b"sections stand first, and their categories rise");
+        }
+    }
+    if k == 6 {
+        if p == 5 {
+            return words(out, at, b"a match has the category of its section");
+        }
+    }
+    if k == 7 {
+        if p == 3 {
+            return words(out, at, b"a rule has one condition, and nothing stands after it");
+        }
+        if p == 7 {
+            return words(out, at, b"not has exactly one condition below it");
+        }
+    }
+    if k < 3 {
+        if p == 1 {
+            return words(out, at, b"obligations stand last");
+        }
+    }
+    if k == 3 {
+        if p == 2 {
+            return words(out, at, b"obligations stand last");
+        }
+    }
+    words(out, at, b"its parent takes no record of its kind")
+}
+
+// The place rule that record i breaks whose parent is record p, in words.
+fn under_words(book: &[u8], i: usize, p: usize, out: &mut [u8], at: usize) -> usize
+    requires { ⌜ (p ≤ i) × ((i + 1) * size ≤ length (now book)) ⌝ }
+    ensures { λ r. ⌜ r ≤ length (now (out .exit)) ⌝ }
+{
+    let a = words(out, at, b"below line ");
+    let b = outline::decimal(out, a, (p + 1) as u64);
+    let c = words(out, b, b": ");
+    if p + record::span(book, p) < i + record::span(book, i) {
+        return words(out, c, b"it runs past its parent's end");
+    }
+    if LEVELS < depth(book, i) {
+        return words(out, c, b"it is nested deeper than 16");
+    }
+    child_words(record::byte(book, p, 0), record::byte(book, i, 0), out, c)
+}
+
+// The place rule that record i breaks, in words.
+fn place_words(book: &[u8], i: usize, out: &mut [u8], at: usize) -> usize
+    requires { ⌜ (i + 1) * size ≤ length (now book) ⌝ }
+    ensures { λ r. ⌜ r ≤ length (now (out .exit)) ⌝ }
+{
+    if i == 0 {
+        return top_words(book, out, at);
+    }
+    under_words(book, i, parent(book, i), out, at)
+}
+
+// The rule that a refused record breaks, in words.
+fn rule_words(book: &[u8], i: usize, number: u8, out: &mut [u8], at: usize) -> usize
+    requires { ⌜ (i + 1) * size ≤ length (now book) ⌝ }
+    ensures { λ r. ⌜ r ≤ length (now (out .exit)) ⌝ }
+{
+    if number == 5 {
+        return field_words(book, i, out, at);
+    }
+    place_words(book, i, out, at)
+}
+
+// The refusal of a line: its number and its rule are to follow.
+fn refused(out: &mut [u8], line: usize, number: u8) -> usize
+    ensures { λ r. ⌜ r ≤ length (now (out .exit)) ⌝ }
+{
+    let a = words(out, 0, b"refused");
+    let b = at_line(out, a, line);
+    let c = words(out, b, b", number ");
+    let d = outline::decimal(out, c, number as u64);
+    words(out, d, b": ")
+}
+
+// The line of a refusal, where there is one.
+fn at_line(out: &mut [u8], at: usize, line: usize) -> usize
+    ensures { λ r. ⌜ r ≤ length (now (out .exit)) ⌝ }
+{
+    if line == 0 {
+        return words(out, at, b"");
+    }
+    let k = words(out, at, b" at line ");
+    outline::decimal(out, k, line as u64)
+}
+
+// What a text breaks that is no book, in words.
+fn text_words(number: u8, out: &mut [u8], at: usize) -> usize
+    ensures { λ r. ⌜ r ≤ length (now (out .exit)) ⌝ }
+{
+    match number {
+        1 => words(out, at, b"the line is not 32 hexadecimal digits and a line feed"),
+        2 => words(out, at, b"there are more than 1,000 records"),
+        3 => words(out, at, b"there is no record: the book is empty, or there is no BOOK.HEX"),
+        4 => words(out, at, b"the bytes are not a multiple of 16"),
+        _ => words(out, at, b"there is no room"),
+    }
+}
+
+// Prints a refusal that is of no record.
+fn print_refusal(refusal: Refusal) {
+    let mut out = [0u8; 256];
+    let a = refused(&mut out, refusal.line, refusal.number);
+    let b = text_words(refusal.number, &mut out, a);
+    let n = words(&mut out, b, b"\n");
+    io::write_all(STDOUT_FILENO, &out[..n]);
+}
+
+// Prints why record i is refused.
+fn print_rule(book: &[u8], i: usize, number: u8)
+    requires { ⌜ (i + 1) * size ≤ length (now book) ⌝ }
+{
+    let mut out = [0u8; 256];
+    let a = refused(&mut out, i + 1, number);
+    let b = rule_words(book, i, number, &mut out, a);
+    let n = words(&mut out, b, b"\n");
+    io::write_all(STDOUT_FILENO, &out[..n]);
+}
+
+// Prints the records before one that is refused, and that one with its rule.
+fn print_refused(book: &[u8], i: usize, number: u8)
+    requires { ⌜ (i + 1) * size ≤ length (now book) ⌝ }
+{
+    print_first(book, i);
+    print(book, i, b'>');
+    print_rule(book, i, number);
+}
+
+// Prints record bytes that are judged.
+fn show_records(book: &[u8]) {
+    match judge::judge_book(book) {
+        Judged::Accepted { records: n, obligations: _ } => show_first(book, n),
+        Judged::Refused(refusal) => show_refused(book, refusal),
+    }
+}
+
+// Prints the first n records, where there are so many.
+fn show_first(book: &[u8], n: usize) {
+    if n <= book.len() / 16 {
+        print_first(book, n);
+    }
+}
+
+// Prints record bytes that are refused.
+fn show_refused(book: &[u8], refusal: Refusal) {
+    let line = refusal.line;
+    if line == 0 {
+        print_refusal(refusal);
+        return;
+    }
+    if book.len() / 16 < line {
+        print_refusal(refusal);
+        return;
+    }
+    print_refused(book, line - 1, refusal.number);
+}
+
+// Prints a text: the records that it says, or why it says none.
+fn show(text: &[u8], records: &mut [u8]) {
+    match text::read_book(text, records) {
+        Filled::Places(n) => show_part(records, n),
+        Filled::Refused(refusal) => {
+            show_before(text, records, refusal);
+            print_refusal(refusal)
+        }
+    }
+}
+
+// Prints the records of the first n bytes.
+fn show_part(records: &[u8], n: usize) {
+    if n <= records.len() {
+        show_records(&records[..n]);
+    }
+}
+
+// The lines before the one at which a text is refused.
+fn lines_before(refusal: Refusal) -> usize
+    ensures { λ r. ⌜ r ≤ 1000 ⌝ }
+{
+    let line = refusal.line;
+    if refusal.number == 2 {
+        return 1000;
+    }
+    if line == 0 {
+        return 0;
+    }
+    if 1000 < line {
+        return 0;
+    }
+    line - 1
+}
+
+// Prints the lines before the one at which a text is refused, as far as they keep the field rules.
+fn show_before(text: &[u8], records: &mut [u8], refusal: Refusal) {
+    let end = LINE * lines_before(refusal);
+    if text.len() < end {
+        return;
+    }
+    match text::read_book(&text[..end], records) {
+        Filled::Places(n) => show_kept(records, n),
+        Filled::Refused(_) => {}
+    }
+}
+
+// Prints of the first n bytes the records before the first that breaks a field rule.
+fn show_kept(records: &[u8], n: usize) {
+    if n <= records.len() {
+        let kept = fields::first_field(records, n / 16);
+        print_first(records, kept.records);
+    }
+}
+
 // How many bytes of the file came: none if it will not open.
 fn read_file(buffer: &mut [u8]) -> usize
     ensures { λ r. ⌜ Counts r (now (buffer .exit)) ⌝ }
