@@ -4,9 +4,12 @@ use mathlib.Core.List.{List, [], _∷_, _++_, append-assoc}
 use Prim.Native.Nat.{ℕ, suc, _+_, _-_, _*_, _/_, _%_, _≤_, _<_, min}
 use native.Mathlib.Omega.{arith}
 use native.Mathlib.Numerals.{add-one}
+use lib.Dec.{ltb}
 use lib.ListN.{length, take, drop, set, getD, replicate, length-append}
 use lib.Seq.{length-take-le, take-suc, drop-cons, append-snoc, set-at, take-at}
+use borrow.Author.Tests.{lt-ltb, le-ltb, ltb-true, ltb-false}
 use Rattle.record.specs.declared.Refusal.{Refusal}
+use Rattle.fields.proofs.First.{by}
 use Rattle.meaning.specs.declared.Decision.{Decision}
 use Rattle.decider.specs.Outcome.{dutiesOf, outcomeOf, outOf}
 use Rattle.decider.specs.declared.Outcome.{Outcome}
@@ -77,3 +80,10 @@ module _ (b q ps l : List ℕ) {o : Outcome} (room : length ps ≡ min (length l
 -- the places that are lent
 pub places-lent : (z : List ℕ) (r a : ℕ) → 1000 ≡ length z → r ≡ min a 1000 → length (take r z) ≡ r
 places-lent z r a e h = length-take-le r z (omega arith)
+
+-- too short for n obligations by places is too short by bytes: twice as many are needed
+pub bytes-needed : (l : List ℕ) (n : ℕ) → ltb (length l / 2) n ≡ ltb (length l) (2 * n)
+bytes-needed l n =
+    by (ltb (length l / 2) n)
+    (λ t. let h = ltb-true (length l / 2) n t in t ∙ sym (lt-ltb (length l) (2 * n) (omega arith)))
+    (λ t. let h = ltb-false (length l / 2) n t in t ∙ sym (le-ltb (length l) (2 * n) (omega arith)))

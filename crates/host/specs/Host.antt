@@ -17,7 +17,7 @@ unfoldable pub pairsOf : List ℕ → List ℕ
 pairsOf [] = []
 pairsOf (x ∷ xs) = x / 256 ∷ x % 256 ∷ pairsOf xs
 
--- two bytes are room for one obligation
+-- output need: twice the obligation records in bytes, so two bytes are one place
 unfoldable pub hostOutcome : List ℕ → List ℕ → List ℕ → Outcome
 hostOutcome b q l = outcomeOf b q (length l / 2)
 

@@ -202,9 +202,9 @@ pub unit-one : (e : ℕ) → (e ≡ 0 → ⊥) → leadOf e ≡ 48 ∷ 120 ∷ 4
 unfolding leadOf
 unit-one e h = simp (ne-eqb e 0 h)
 
-pub hex-parts : (n : ℕ) → signOf n ++ (leadOf (exponentOf n) ++ (pointOf (fractionOf n) ++ powerOf (writtenOf (exponentOf n) (fractionOf n)))) ≡ hexOf n
+pub hex-parts : (n : ℕ) {w : ℕ} → w ≡ writtenOf (exponentOf n) (fractionOf n) → signOf n ++ (leadOf (exponentOf n) ++ (pointOf (fractionOf n) ++ powerOf w)) ≡ hexOf n
 unfolding hexOf
-hex-parts n = refl
+hex-parts n e = rw e
 
 pub halved-none : (k m : ℕ) → k ≡ 0 → m ≡ halvedOf k m
 unfolding halvedOf

@@ -63,6 +63,15 @@ fn function(out: &mut [u8], at: usize, f: usize) -> usize
     }
 }
 
+fn logic(out: &mut [u8], at: usize, c: usize) -> usize
+    ensures { λ r. ⌜ r ≤ length (now (out .exit)) ⌝ }
+{
+    if c == 1 {
+        return words(out, at, b"condition: and");
+    }
+    words(out, at, b"condition: or")
+}
+
 // The name in bytes 8 to 15 of record i, in quotation marks.
 fn name(book: &[u8], i: usize, out: &mut [u8], at: usize) -> usize
     requires { ⌜ (i + 1) * size ≤ length (now book) ⌝ }
@@ -167,13 +176,7 @@ fn record_words(book: &[u8], i: usize, out: &mut [u8], at: usize) -> usize
             let k = words(out, at, b"match: ");
             compares(book, i, c, out, k)
         }
-        Kind::Logic => {
-            if c == 1 {
-                words(out, at, b"condition: and")
-            } else {
-                words(out, at, b"condition: or")
-            }
-        }
+        Kind::Logic => logic(out, at, c),
         Kind::Not => words(out, at, b"condition: not"),
         Kind::Comparison => {
             let k = words(out, at, b"condition: ");
@@ -321,7 +324,7 @@ fn compares_words(book: &[u8], i: usize, out: &mut [u8], at: usize) -> usize
         return words(out, at, b"its span is not 1, and nothing stands below it");
     }
     match fields::type_at(book, i) {
-        Sort::Integer => words(out, at, b"a field rule of an integer"),
+        Sort::Integer => words(out, at, b"a field rule"),
         Sort::Name => words(out, at, b"a name is compared by equal alone"),
         Sort::Double => words(out, at, b"its double is not finite"),
         Sort::Other => words(out, at, b"byte 5 is no type, 1 to 3, or 129 to 131"),
@@ -402,7 +405,7 @@ fn child_words(p: usize, k: usize, out: &mut [u8], at: usize) -> usize
     }
     if k == 7 {
         if p == 3 {
-            return words(out, at, b"a rule has one condition, and nothing stands after it");
+            return words(out, at, b"a rule has at most one condition");
         }
         if p == 7 {
             return words(out, at, b"not has exactly one condition below it");

@@ -1,3 +1,4 @@
+use Rattle.outline.proofs.Laws.{then, as-is, double-parts}
 use borrow.Author.Needs.{needs}
 use Rattle.outline.proofs.double.Statement.{statement}
 use Rattle.outline.proofs.double.Tie as tie
@@ -20,7 +21,7 @@ same-length c = search needs
 
 -- src/lib.rt:291:1
 returns : tie.Need-returns
-returns c = ?
+returns c = as-is (double-parts _) (then (c .before .before .before .before .before .before .hex .ensures) (c .before .before .digits-too .ensures))
 
 pub double-spec : {M : Type 1} → statement M
 double-spec = tie.close (tie.spec hex-requires digits-too-requires same-length returns)

@@ -1,3 +1,4 @@
+use Rattle.outline.proofs.Laws.{then, as-is, point-none, point-some}
 use borrow.Author.Needs.{needs}
 use Rattle.outline.proofs.point.Statement.{statement}
 use Rattle.outline.proofs.point.Tie as tie
@@ -17,7 +18,7 @@ same-length c = search needs
 
 -- src/lib.rt:176:9
 returns : tie.Need-returns
-returns c = ?
+returns c = as-is (point-none _ (c .before .before .before .before .if1 .taken)) (c .before .before .none .ensures)
 
 -- src/lib.rt:178:9
 put-requires : tie.Need-put-requires
@@ -33,7 +34,7 @@ same-length-2 c = search needs
 
 -- src/lib.rt:172:1
 returns-2 : tie.Need-returns-2
-returns-2 c = ?
+returns-2 c = as-is (point-some _ (c .before .before .before .before .before .before .before .before .if1 .left)) (then (c .before .before .before .before .before .before .put .ensures) (c .before .before .hexes .ensures))
 
 pub point-spec : {M : Type 1} → statement M
 point-spec =
