@@ -1,5 +1,6 @@
 -- Laws of the C host's call. Assumes nothing.
 use mathlib.Core.Path.{_≡_, refl, sym, ap, _∙_}
+use mathlib.Core.Bool.{Bool, true, false}
 use mathlib.Core.List.{List, [], _∷_, _++_, append-assoc}
 use Prim.Native.Nat.{ℕ, suc, _+_, _-_, _*_, _/_, _%_, _≤_, _<_, min}
 use native.Mathlib.Omega.{arith}
@@ -9,7 +10,6 @@ use lib.ListN.{length, take, drop, set, getD, replicate, length-append}
 use lib.Seq.{length-take-le, take-suc, drop-cons, append-snoc, set-at, take-at}
 use borrow.Author.Tests.{lt-ltb, le-ltb, ltb-true, ltb-false}
 use Rattle.record.specs.declared.Refusal.{Refusal}
-use Rattle.fields.proofs.First.{by}
 use Rattle.meaning.specs.declared.Decision.{Decision}
 use Rattle.decider.specs.Outcome.{dutiesOf, outcomeOf, outOf}
 use Rattle.decider.specs.declared.Outcome.{Outcome}
@@ -83,7 +83,8 @@ places-lent z r a e h = length-take-le r z (omega arith)
 
 -- too short for n obligations by places is too short by bytes: twice as many are needed
 pub bytes-needed : (l : List ℕ) (n : ℕ) → ltb (length l / 2) n ≡ ltb (length l) (2 * n)
-bytes-needed l n =
-    by (ltb (length l / 2) n)
-    (λ t. let h = ltb-true (length l / 2) n t in t ∙ sym (lt-ltb (length l) (2 * n) (omega arith)))
-    (λ t. let h = ltb-false (length l / 2) n t in t ∙ sym (le-ltb (length l) (2 * n) (omega arith)))
+bytes-needed l n = go (ltb (length l / 2) n) refl
+  where
+    go : (t : Bool) → ltb (length l / 2) n ≡ t → ltb (length l / 2) n ≡ ltb (length l) (2 * n)
+    go true e = let h = ltb-true (length l / 2) n e in e ∙ sym (lt-ltb (length l) (2 * n) (omega arith))
+    go false e = let h = ltb-false (length l / 2) n e in e ∙ sym (le-ltb (length l) (2 * n) (omega arith))

@@ -8,11 +8,12 @@ use outline::words;
 use record::Refusal;
 use text::Filled;
 ghost use mathlib.Core.Path.{_≡_};
-ghost use Prim.Native.Nat.{_+_, _*_, _≤_};
+ghost use Prim.Native.Nat.{_+_, _*_, _≤_, max};
 ghost use lib.ListN.{length};
 ghost use Rattle.io.specs.Counts.{Counts};
+ghost use Rattle.record.specs.Choose.{if};
 ghost use Rattle.record.specs.Bytes.{size};
-ghost use Rattle.judge.specs.Place.{depthOf, parentOf};
+ghost use Rattle.judge.specs.Place.{covers, depthOf, parentOf};
 
 // The levels that are indented at most, line 1 having none.
 const LEVELS: usize = 16;
@@ -187,6 +188,24 @@ fn record_words(book: &[u8], i: usize, out: &mut [u8], at: usize) -> usize
     }
 }
 
+// Whether the span of the earlier record j covers record i.
+fn covers(book: &[u8], i: usize, j: usize) -> bool
+    requires { ⌜ (j + 1) * size ≤ length (now book) ⌝ }
+    ensures { λ r. ⌜ r ≡ covers (now (book .entry)) i j ⌝ }
+{
+    i < j + record::span(book, j)
+}
+
+// a where c is true, else b.
+fn choose(c: bool, a: usize, b: usize) -> usize
+    ensures { λ r. ⌜ (r ≡ if c a b) × (r ≤ max a b) ⌝ }
+{
+    if c {
+        return a;
+    }
+    b
+}
+
 // The depth of record i: line 1 has 1, and each earlier record whose span covers it is one more.
 fn depth(book: &[u8], i: usize) -> usize
     requires { ⌜ (i + 1) * size ≤ length (now book) ⌝ }
@@ -195,9 +214,7 @@ fn depth(book: &[u8], i: usize) -> usize
     let mut d: usize = 0;
     let mut j: usize = 0;
     while j < i {
-        if i < j + record::span(book, j) {
-            d += 1;
-        }
+        d += choose(covers(book, i, j), 1, 0);
         j += 1;
     }
     d + 1
@@ -243,13 +260,20 @@ fn line(book: &[u8], i: usize, mark: u8, out: &mut [u8]) -> usize
     words(out, d, b"\n")
 }
 
+// Prints the first n bytes.
+fn send(out: &[u8], n: usize)
+    requires { ⌜ n ≤ length (now out) ⌝ }
+{
+    io::write_all(STDOUT_FILENO, &out[..n]);
+}
+
 // Prints record i.
 fn print(book: &[u8], i: usize, mark: u8)
     requires { ⌜ (i + 1) * size ≤ length (now book) ⌝ }
 {
     let mut out = [0u8; 256];
     let n = line(book, i, mark, &mut out);
-    io::write_all(STDOUT_FILENO, &out[..n]);
+    send(&out, n);
 }
 
 // Prints the first n records.
@@ -370,9 +394,7 @@ fn parent(book: &[u8], i: usize) -> usize
     let mut p: usize = 0;
     let mut j: usize = 0;
     while j < i {
-        if i < j + record::span(book, j) {
-            p = j;
-        }
+        p = choose(covers(book, i, j), j, p);
         j += 1;
     }
     p
@@ -504,7 +526,7 @@ fn print_refusal(refusal: Refusal) {
     let a = refused(&mut out, refusal.line, refusal.number);
     let b = text_words(refusal.number, &mut out, a);
     let n = words(&mut out, b, b"\n");
-    io::write_all(STDOUT_FILENO, &out[..n]);
+    send(&out, n);
 }
 
 // Prints why record i is refused.
@@ -515,7 +537,7 @@ fn print_rule(book: &[u8], i: usize, number: u8)
     let a = refused(&mut out, i + 1, number);
     let b = rule_words(book, i, number, &mut out, a);
     let n = words(&mut out, b, b"\n");
-    io::write_all(STDOUT_FILENO, &out[..n]);
+    send(&out, n);
 }
 
 // Prints the records before one that is refused, and that one with its rule.

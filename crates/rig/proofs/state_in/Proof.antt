@@ -1,0 +1,44 @@
+use borrow.Author.Needs.{needs}
+use Rattle.rig.proofs.Laws.{few-numbers, few-places, held}
+use Rattle.rig.proofs.state_in.Statement.{statement}
+use Rattle.rig.proofs.state_in.Tie as tie
+
+returns : tie.Need-returns
+returns c = few-numbers _ _ (c .before .if1 .taken) (c .no-state .ensures)
+
+returns-2 : tie.Need-returns-2
+returns-2 c = few-places _ _ (c .before .before .if1 .left) (c .before .if2 .taken) (c .no-state2 .ensures)
+
+returns-3 : tie.Need-returns-3
+returns-3 c =
+    held _ _ (c .before .before .before .before .before .before .before .before .before .before .before .before .before .before .if1 .left)
+    (c .before .before .before .before .before .before .before .before .before .before .before .before .before .if2 .left)
+    (c .before .before .before .before .before .before .before .before .before .before .copy-numbers .ensures)
+    (c .before .before .before .before .before .before .copy-numbers2 .ensures)
+    (c .before .before .copy-places .ensures)
+
+pub state-in-spec : {M : Type 1} → statement M
+state-in-spec =
+    tie.close
+    (tie.spec
+    (λ c κs. search needs)
+    returns
+    (λ c κs. search needs)
+    returns-2
+    (λ c. search needs)
+    (λ c. search needs)
+    (λ c. search needs)
+    (λ c. search needs)
+    (λ c κs. search needs)
+    (λ c. search needs)
+    (λ c. search needs)
+    (λ c. search needs)
+    (λ c. search needs)
+    (λ c κs. search needs)
+    (λ c. search needs)
+    (λ c. search needs)
+    (λ c. search needs)
+    (λ c. search needs)
+    (λ c κs. search needs)
+    (λ c. search needs)
+    returns-3)

@@ -1,0 +1,2 @@
+pub mod Rig
+pub mod Parts

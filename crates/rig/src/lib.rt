@@ -1,0 +1,185 @@
+// The calls of the rig's loop. They take apart what is lent, call the functions of other crates, and put together what those give.
+use meaning::Decision;
+use programme::State;
+use record::Refusal;
+use run::kinds::Answer;
+use translator::Translated;
+ghost use mathlib.Core.Path.{_≡_};
+ghost use mathlib.Core.List.{_∷_, _++_};
+ghost use Prim.Native.Nat.{_≤_};
+ghost use lib.ListN.{length};
+ghost use Rattle.translator.specs.Translate.{translateOf, leaves};
+ghost use Rattle.rig.specs.Rig.{refusalNumber, noState, stateIn, numbersOf, over, call, freshCall, runningNumber, finishedNumber, tickIn, tickCall, translatedNumber};
+
+// What a state takes: the first number, 17 frames and 15 levels; and its places.
+const NUMBERS: usize = 33;
+
+const PLACES: usize = 1000;
+
+fn copy_numbers(from: &[u64], to: &mut [u64])
+    requires { ⌜ length (now from) ≡ length (now to) ⌝ }
+    ensures { λ _. ⌜ now (to .exit) ≡ now (from .entry) ⌝ }
+{
+    let mut i: usize = 0;
+    while i < to.len() {
+        to[i] = from[i];
+        i += 1;
+    }
+}
+
+fn copy_places(from: &[u16], to: &mut [u16])
+    requires { ⌜ length (now from) ≡ length (now to) ⌝ }
+    ensures { λ _. ⌜ now (to .exit) ≡ now (from .entry) ⌝ }
+{
+    let mut i: usize = 0;
+    while i < to.len() {
+        to[i] = from[i];
+        i += 1;
+    }
+}
+
+// A state that no layout allows.
+fn no_state() -> State
+    ensures { λ r. ⌜ r ≡ noState ⌝ }
+{
+    State {
+        head: 18446744073709551615,
+        frames: [0; 17],
+        levels: [0; 15],
+        places: [0; 1000],
+    }
+}
+
+// The state that lent numbers and places hold.
+fn state_in(numbers: &[u64], places: &[u16]) -> State
+    ensures { λ r. ⌜ r ≡ stateIn (now (numbers .entry)) (now (places .entry)) ⌝ }
+{
+    if numbers.len() < NUMBERS {
+        return no_state();
+    }
+    if places.len() < PLACES {
+        return no_state();
+    }
+    let mut frames: [u64; 17] = [0; 17];
+    let mut levels: [u64; 15] = [0; 15];
+    let mut held: [u16; 1000] = [0; 1000];
+    copy_numbers(&numbers[1..18], &mut frames);
+    copy_numbers(&numbers[18..33], &mut levels);
+    copy_places(&places[0..1000], &mut held);
+    State {
+        head: numbers[0],
+        frames,
+        levels,
+        places: held,
+    }
+}
+
+// Puts the numbers of a state into the first of lent numbers.
+fn put_numbers(head: u64, frames: &[u64; 17], levels: &[u64; 15], numbers: &mut [u64])
+    requires { ⌜ 33 ≤ length (now numbers) ⌝ }
+    ensures { λ _. ⌜ now (numbers .exit) ≡ over (head ∷ (now (frames .entry) ++ now (levels .entry))) (now (numbers .entry)) ⌝ }
+{
+    numbers[0] = head;
+    copy_numbers(frames, &mut numbers[1..18]);
+    copy_numbers(levels, &mut numbers[18..33]);
+}
+
+// Puts the places of a state into the first of lent places.
+fn put_places(held: &[u16; 1000], places: &mut [u16])
+    requires { ⌜ 1000 ≤ length (now places) ⌝ }
+    ensures { λ _. ⌜ now (places .exit) ≡ over (now (held .entry)) (now (places .entry)) ⌝ }
+{
+    copy_places(held, &mut places[0..1000]);
+}
+
+// Puts a state into the first of lent numbers and places.
+fn put_state(state: State, numbers: &mut [u64], places: &mut [u16])
+    requires { ⌜ (33 ≤ length (now numbers)) × (1000 ≤ length (now places)) ⌝ }
+    ensures { λ _. ⌜ (now (numbers .exit) ≡ over (numbersOf state) (now (numbers .entry))) × (now (places .exit) ≡ over (state .places) (now (places .entry))) ⌝ }
+{
+    let frames = state.frames;
+    let levels = state.levels;
+    let held = state.places;
+    put_numbers(state.head, &frames, &levels, numbers);
+    put_places(&held, places);
+}
+
+// LAB
+fn refusal_number(r: Refusal) -> u64
+    requires { ⌜ r .line ≤ 1000 ⌝ }
+    ensures { λ x. ⌜ x ≡ refusalNumber r ⌝ }
+{
+    255 + 256 * r.number as u64 + 65536 * r.line as u64 + 4294967296 * r.part as u64
+}
+
+// Translates a book into lent entries: 256 times their number, or the refusal.
+#[no_mangle]
+pub extern "C" fn bachumoi_translate(book: &[u8], programme: &mut [u64]) -> u64
+    ensures { λ r. ⌜ (r ≡ translatedNumber (translateOf (now (book .entry)) (length (now (programme .entry)))))
+        × (now (programme .exit) ≡ leaves (translateOf (now (book .entry)) (length (now (programme .entry)))) (now (book .entry)) (now (programme .entry))) ⌝ }
+{
+    match translator::translate(book, programme) {
+        Translated::Entries(n) => 256 * n as u64,
+        Translated::Refused(why) => refusal_number(why),
+    }
+}
+
+// Puts the fresh state into lent numbers and places: 0, or the refusal.
+#[no_mangle]
+pub extern "C" fn bachumoi_fresh(numbers: &mut [u64], places: &mut [u16]) -> u64
+    ensures { λ r. ⌜ call r (now (numbers .exit)) (now (places .exit)) ≡ freshCall (now (numbers .entry)) (now (places .entry)) ⌝ }
+{
+    if numbers.len() < NUMBERS {
+        return refusal_number(record::no_room());
+    }
+    if places.len() < PLACES {
+        return refusal_number(record::no_room());
+    }
+    put_state(run::fresh(), numbers, places);
+    0
+}
+
+fn running(steps: u64) -> u64
+    requires { ⌜ steps ≤ 8008 ⌝ }
+    ensures { λ r. ⌜ r ≡ runningNumber steps ⌝ }
+{
+    4294967296 * steps
+}
+
+fn finished(decision: Decision, count: u64, steps: u64) -> u64
+    requires { ⌜ (count ≤ 1000) × (steps ≤ 8008) ⌝ }
+    ensures { λ r. ⌜ r ≡ finishedNumber decision count steps ⌝ }
+{
+    meaning::number(decision) as u64 + 256 * count + 4294967296 * steps
+}
+
+// Takes one tick of the state in lent numbers and places: its answer as one number.
+#[no_mangle]
+pub extern "C" fn bachumoi_tick(
+    programme: &[u64],
+    request: &[u8],
+    numbers: &mut [u64],
+    places: &mut [u16],
+    budget: u64,
+    out: &mut [u16],
+) -> u64
+    ensures { λ r. ⌜ (call r (now (numbers .exit)) (now (places .exit))
+        ≡ tickCall (tickIn (now (programme .entry)) (now (request .entry)) (now (numbers .entry)) (now (places .entry)) budget (now (out .entry)) .tick) (now (numbers .entry)) (now (places .entry)))
+        × (now (out .exit) ≡ tickIn (now (programme .entry)) (now (request .entry)) (now (numbers .entry)) (now (places .entry)) budget (now (out .entry)) .out) ⌝ }
+{
+    let state = state_in(numbers, places);
+    let ticked = run::tick(programme, request, state, budget, out);
+    let answer = ticked.answer;
+    let after = ticked.state;
+    match answer {
+        Answer::Refused(why) => refusal_number(why),
+        Answer::Running => {
+            put_state(after, numbers, places);
+            running(ticked.steps)
+        }
+        Answer::Finished(decision, count) => {
+            put_state(after, numbers, places);
+            finished(decision, count, ticked.steps)
+        }
+    }
+}
