@@ -96,7 +96,7 @@ def picture(rows):
     yield ("<style>.title{font-size:14px;font-weight:bold}.grid{stroke:#ddd}"
            ".line{fill:none;stroke-width:2;stroke-linejoin:round}</style>")
     yield f'<rect width="{WIDTH}" height="{HEIGHT}" fill="#fff"/>'
-    yield ('<text x="70" y="28">Time of one call, medians of one run of bench/run. '
+    yield ('<text x="70" y="28">Time of one call, from one run of bench/run. '
            'Solid: Bachumoi. Dashed: plain C, gcc -O2.</text>')
     book, request = Panel(70, (10, 100, 1000), decades), Panel(530, (1, 8, 64), decades)
     yield from book.draw("A book grows", "records of the book; requests of 8 entries", left)
@@ -105,9 +105,9 @@ def picture(rows):
 
 
 def main(figures, svg):
-    rows = read(figures)
+    drawn = "\n".join(picture(read(figures))) + "\n"
     with open(svg, "w") as file:
-        file.write("\n".join(picture(rows)) + "\n")
+        file.write(drawn)
 
 
 main(*sys.argv[1:])

@@ -42,33 +42,42 @@ static double median(double *of, size_t count)
     return of[count / 2];
 }
 
-/* One turn of a side: nanoseconds of a call, or of a step. */
-static double turn(struct timed of, const struct input *input, unsigned calls)
+/* The quickest turn of a side so far, in nanoseconds of a batch; begins at 0. */
+struct quickest {
+    double call, less;
+};
+
+static double quicker(double so_far, double time)
 {
-    double time = batch(of.call, input, calls);
-    if (of.less)
-        time = (time - batch(of.less, input, calls)) / (double)of.steps;
-    return time / calls;
+    return so_far == 0 || time < so_far ? time : so_far;
+}
+
+/* One turn of a side: nanoseconds of a batch, less the other. */
+static double turn(struct timed of, const struct input *input, unsigned calls, struct quickest *quickest)
+{
+    double call = batch(of.call, input, calls), less = of.less ? batch(of.less, input, calls) : 0;
+    quickest->call = quicker(quickest->call, call);
+    quickest->less = quicker(quickest->less, less);
+    return call - less;
 }
 
 void measure(const char *what, const struct input *input, struct timed plain, struct timed proved)
 {
-    static double plains[TURNS], proveds[TURNS], ratios[TURNS];
+    static double ratios[TURNS];
+    struct quickest of_plain = { 0, 0 }, of_proved = { 0, 0 };
     unsigned calls = 1, turns = 0;
     while (batch(plain.call, input, calls) < BATCH_NANOSECONDS)
         calls *= 2;
-    double start = now();
+    double start = now(), parts = (double)calls * (double)plain.steps;
     for (; turns < TURNS && (turns < FEWEST_TURNS || now() - start < ROW_NANOSECONDS); turns++) {
-        if (proved.call && turns % 2 == 0)
-            proveds[turns] = turn(proved, input, calls);
-        plains[turns] = turn(plain, input, calls);
-        if (proved.call && turns % 2 == 1)
-            proveds[turns] = turn(proved, input, calls);
-        ratios[turns] = proveds[turns] / plains[turns];
+        double first = proved.call && turns % 2 == 0 ? turn(proved, input, calls, &of_proved) : 0;
+        double time = turn(plain, input, calls, &of_plain);
+        double second = proved.call && turns % 2 == 1 ? turn(proved, input, calls, &of_proved) : 0;
+        ratios[turns] = (first + second) / time;
     }
-    double plain_time = median(plains, turns);
+    double plain_time = (of_plain.call - of_plain.less) / parts, proved_time = (of_proved.call - of_proved.less) / parts;
     if (proved.call)
-        row(what, input, "ns", plain_time, median(proveds, turns), median(ratios, turns));
+        row(what, input, "ns", plain_time, proved_time, median(ratios, turns));
     else
         row_of_plain(what, input, "ns", plain_time);
 }

@@ -18,14 +18,14 @@ struct input {
 
 typedef uint64_t side(const struct input *input);
 
-/* What is timed of a side: a call; or, where less is not NULL, what it takes longer than less, divided by steps. */
+/* What is timed of a side: a call; or, where less is not NULL, what it takes longer than less. Divided by steps. */
 struct timed {
     side *call, *less;
     uint64_t steps;
 };
 
 /* Times both sides on the same input, in turn, many times, and prints the row: what, book, records, entries, the time
- * of plain C and of Bachumoi in nanoseconds, each the median over the turns, and the median of the turns' ratios. Where
+ * of plain C and of Bachumoi in nanoseconds, each the quickest of the turns, and the median of the turns' ratios. Where
  * the library of Bachumoi is not built, its call is NULL. */
 void measure(const char *what, const struct input *input, struct timed plain, struct timed proved);
 

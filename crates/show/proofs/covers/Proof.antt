@@ -1,3 +1,4 @@
+use Rattle.show.proofs.Laws.{covers-is}
 use borrow.Author.Needs.{needs}
 use Rattle.show.proofs.covers.Statement.{statement}
 use Rattle.show.proofs.covers.Tie as tie
@@ -15,7 +16,7 @@ add-result c = search needs
 
 -- src/main.rt:192:1
 returns : tie.Need-returns
-returns c = ?
+returns c = covers-is _ _ _ (c .span .ensures .0)
 
 pub covers-spec : {M : Type 1} → statement M
 covers-spec = tie.close (tie.spec span-requires add-result returns)

@@ -1,3 +1,5 @@
+use lib.ListN.{length-take}
+use native.Mathlib.Omega.{arith}
 use borrow.Author.Needs.{needs}
 use Rattle.show.proofs.send.Statement.{statement}
 use Rattle.show.proofs.send.Tie as tie
@@ -7,7 +9,7 @@ use Rattle.io.proofs.write_all.Reads as write-all-reads
 
 -- src/main.rt:267:34
 slice-aggregate-write-all : tie.Need-slice-aggregate-write-all
-slice-aggregate-write-all c = ?
+slice-aggregate-write-all c = simp length-take (omega arith)
 
 -- src/main.rt:267:5
 write-all-requires : tie.Need-write-all-requires
