@@ -309,9 +309,17 @@ fn plain_words(book: &[u8], i: usize, s: usize, out: &mut [u8], at: usize) -> us
         return words(out, at, b"its span, bytes 2 and 3, is 0");
     }
     if record::span(book, i) < s {
-        return words(out, at, b"its span is below 2, and something must stand below it");
+        return words(
+            out,
+            at,
+            b"its span is below 2, and something must stand below it",
+        );
     }
-    words(out, at, b"a byte that its kind does not use, of 4 to 15, is not zero")
+    words(
+        out,
+        at,
+        b"a byte that its kind does not use, of 4 to 15, is not zero",
+    )
 }
 
 // .. in a section.
@@ -327,9 +335,17 @@ fn section_words(book: &[u8], i: usize, out: &mut [u8], at: usize) -> usize
         return words(out, at, b"byte 4 is no category, 1 to 4");
     }
     if record::span(book, i) < 2 {
-        return words(out, at, b"its span is below 2, and something must stand below it");
+        return words(
+            out,
+            at,
+            b"its span is below 2, and something must stand below it",
+        );
     }
-    words(out, at, b"a byte that its kind does not use, of 5 to 15, is not zero")
+    words(
+        out,
+        at,
+        b"a byte that its kind does not use, of 5 to 15, is not zero",
+    )
 }
 
 // .. in a match or a comparison.
@@ -363,7 +379,11 @@ fn obligation_words(book: &[u8], i: usize, out: &mut [u8], at: usize) -> usize
     if record::span(book, i) != 1 {
         return words(out, at, b"its span is not 1, and nothing stands below it");
     }
-    words(out, at, b"a byte that its kind does not use, of 4, 5 and 8 to 15, is not zero")
+    words(
+        out,
+        at,
+        b"a byte that its kind does not use, of 4, 5 and 8 to 15, is not zero",
+    )
 }
 
 // The field rule that record i breaks, in words.
@@ -512,9 +532,17 @@ fn text_words(number: u8, out: &mut [u8], at: usize) -> usize
     ensures { λ r. ⌜ r ≤ length (now (out .exit)) ⌝ }
 {
     match number {
-        1 => words(out, at, b"the line is not 32 hexadecimal digits and a line feed"),
+        1 => words(
+            out,
+            at,
+            b"the line is not 32 hexadecimal digits and a line feed",
+        ),
         2 => words(out, at, b"there are more than 1,000 records"),
-        3 => words(out, at, b"there is no record: the book is empty, or there is no BOOK.HEX"),
+        3 => words(
+            out,
+            at,
+            b"there is no record: the book is empty, or there is no BOOK.HEX",
+        ),
         4 => words(out, at, b"the bytes are not a multiple of 16"),
         _ => words(out, at, b"there is no room"),
     }
@@ -552,7 +580,10 @@ fn print_refused(book: &[u8], i: usize, number: u8)
 // Prints record bytes that are judged.
 fn show_records(book: &[u8]) {
     match judge::judge_book(book) {
-        Judged::Accepted { records: n, obligations: _ } => show_first(book, n),
+        Judged::Accepted {
+            records: n,
+            obligations: _,
+        } => show_first(book, n),
         Judged::Refused(refusal) => show_refused(book, refusal),
     }
 }
