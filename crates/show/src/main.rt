@@ -188,6 +188,17 @@ fn record_words(book: &[u8], i: usize, out: &mut [u8], at: usize) -> usize
     }
 }
 
+// Record i in words, or its bytes where it breaks a field rule.
+fn shown(book: &[u8], i: usize, out: &mut [u8], at: usize) -> usize
+    requires { ⌜ (i + 1) * size ≤ length (now book) ⌝ }
+    ensures { λ r. ⌜ r ≤ length (now (out .exit)) ⌝ }
+{
+    if fields::field_ok(book, i) {
+        return record_words(book, i, out, at);
+    }
+    bytes(book, i, out, at)
+}
+
 // Whether the span of the earlier record j covers record i.
 fn covers(book: &[u8], i: usize, j: usize) -> bool
     requires { ⌜ (j + 1) * size ≤ length (now book) ⌝ }
@@ -256,7 +267,7 @@ fn line(book: &[u8], i: usize, mark: u8, out: &mut [u8]) -> usize
     let a = outline::put(out, 0, mark);
     let b = number(out, a, i + 1);
     let c = indent(out, b, depth(book, i));
-    let d = record_words(book, i, out, c);
+    let d = shown(book, i, out, c);
     words(out, d, b"\n")
 }
 

@@ -1,5 +1,4 @@
 use Rattle.outline.proofs.Laws.{then, as-is, digits-zero, digits-last, digits-more}
-use native.Mathlib.Omega.{arith}
 use borrow.Author.Needs.{needs}
 use Prim.Native.Nat.{ℕ, _<_}
 use borrow.Fn.Kinds.{In}
@@ -24,44 +23,14 @@ digits-below t = and 1 digits-kinds.ps (falls 1 digits-kinds.ps _<_ μ-digits t)
 abbrev digits-calls : ℕ → digits-lts.Claims
 digits-calls t = (digit-reads.Asked, digit-reads.Learnt, put-reads.Asked, put-reads.Learnt, digits-below t, digits.Post)
 
-digits-digit-requires : (t : ℕ) → digits-lts.Need-digit-requires (digits-calls t) (digits-at t) digits.Post
-digits-digit-requires t c κs = search needs
-
-digits-put-requires : (t : ℕ) → digits-lts.Need-put-requires (digits-calls t) (digits-at t) digits.Post
-digits-put-requires t c κs = search needs
-
-digits-same-length : (t : ℕ) → digits-lts.Need-same-length (digits-calls t) (digits-at t) digits.Post
-digits-same-length t c = search needs
-
 digits-returns : (t : ℕ) → digits-lts.Need-returns (digits-calls t) (digits-at t) digits.Post
 digits-returns t c = as-is (digits-zero _ _ (c .before .before .before .before .before .if1 .taken) (c .before .before .before .digit .ensures)) (c .before .before .put .ensures)
-
-digits-digit-requires-2 : (t : ℕ) → digits-lts.Need-digit-requires-2 (digits-calls t) (digits-at t) digits.Post
-digits-digit-requires-2 t c κs = search needs
-
-digits-put-requires-2 : (t : ℕ) → digits-lts.Need-put-requires-2 (digits-calls t) (digits-at t) digits.Post
-digits-put-requires-2 t c κs = search needs
-
-digits-same-length-2 : (t : ℕ) → digits-lts.Need-same-length-2 (digits-calls t) (digits-at t) digits.Post
-digits-same-length-2 t c = search needs
 
 digits-returns-2 : (t : ℕ) → digits-lts.Need-returns-2 (digits-calls t) (digits-at t) digits.Post
 digits-returns-2 t c = as-is (digits-last _ _ (c .before .before .before .before .before .if2 .taken) (c .before .before .before .digit2 .ensures)) (c .before .before .put2 .ensures)
 
-digits-sub-digits : (t : ℕ) → digits-lts.Need-sub-digits (digits-calls t) (digits-at t) digits.Post
-digits-sub-digits t c = search needs
-
 digits-digits-requires : (t : ℕ) → digits-lts.Need-digits-requires (digits-calls t) (digits-at t) digits.Post
 digits-digits-requires t c κs = (search needs, tt)
-
-digits-digit-requires-3 : (t : ℕ) → digits-lts.Need-digit-requires-3 (digits-calls t) (digits-at t) digits.Post
-digits-digit-requires-3 t c κs = search needs
-
-digits-put-requires-3 : (t : ℕ) → digits-lts.Need-put-requires-3 (digits-calls t) (digits-at t) digits.Post
-digits-put-requires-3 t c κs = search needs
-
-digits-same-length-3 : (t : ℕ) → digits-lts.Need-same-length-3 (digits-calls t) (digits-at t) digits.Post
-digits-same-length-3 t c = search needs
 
 digits-returns-3 : (t : ℕ) → digits-lts.Need-returns-3 (digits-calls t) (digits-at t) digits.Post
 digits-returns-3 t c = as-is (digits-more _ _ (c .before .before .before .before .before .before .before .before .before .before .if1 .left) (c .before .before .before .before .before .before .before .before .before .if2 .left) (c .before .before .before .digit3 .ensures)) (then (c .before .before .before .before .before .before .before .digits .ensures) (c .before .before .put3 .ensures))
@@ -70,17 +39,17 @@ pub +digits-spec : {M : Type 1} → statement M
 +digits-spec = close μ-digits λ t. digits-lts.spec (digits-calls t)
     (digits-at t)
     digits.Post
-    (digits-digit-requires t)
-    (digits-put-requires t)
-    (digits-same-length t)
+    (λ c κs. search needs)
+    (λ c κs. search needs)
+    (λ c. search needs)
     (digits-returns t)
-    (digits-digit-requires-2 t)
-    (digits-put-requires-2 t)
-    (digits-same-length-2 t)
+    (λ c κs. search needs)
+    (λ c κs. search needs)
+    (λ c. search needs)
     (digits-returns-2 t)
-    (digits-sub-digits t)
+    (λ c. search needs)
     (digits-digits-requires t)
-    (digits-digit-requires-3 t)
-    (digits-put-requires-3 t)
-    (digits-same-length-3 t)
+    (λ c κs. search needs)
+    (λ c κs. search needs)
+    (λ c. search needs)
     (digits-returns-3 t)

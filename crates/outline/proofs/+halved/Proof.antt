@@ -1,5 +1,4 @@
 use Rattle.outline.proofs.Laws.{halved-none, halved-odd, halved-even}
-use native.Mathlib.Omega.{arith}
 use borrow.Author.Needs.{needs}
 use Prim.Native.Nat.{ℕ, _<_}
 use borrow.Fn.Kinds.{In}

@@ -1,5 +1,4 @@
 use Rattle.outline.proofs.Laws.{then, as-is, hexes-none, hexes-end, hexes-more}
-use native.Mathlib.Omega.{arith}
 use borrow.Author.Needs.{needs}
 use Prim.Native.Nat.{ℕ, _<_}
 use borrow.Fn.Kinds.{In}
@@ -25,41 +24,14 @@ hexes-below t = and 1 hexes-kinds.ps (falls 1 hexes-kinds.ps _<_ μ-hexes t) hex
 abbrev hexes-calls : ℕ → hexes-lts.Claims
 hexes-calls t = (none-reads.Asked, none-reads.Learnt, letter-reads.Asked, letter-reads.Learnt, put-reads.Asked, put-reads.Learnt, hexes-below t, hexes.Post)
 
-hexes-none-requires : (t : ℕ) → hexes-lts.Need-none-requires (hexes-calls t) (hexes-at t) hexes.Post
-hexes-none-requires t c κs = search needs
-
-hexes-same-length : (t : ℕ) → hexes-lts.Need-same-length (hexes-calls t) (hexes-at t) hexes.Post
-hexes-same-length t c = search needs
-
 hexes-returns : (t : ℕ) → hexes-lts.Need-returns (hexes-calls t) (hexes-at t) hexes.Post
 hexes-returns t c = as-is (hexes-none _ _ (c .before .before .before .before .if1 .taken)) (c .before .before .none .ensures)
-
-hexes-none-requires-2 : (t : ℕ) → hexes-lts.Need-none-requires-2 (hexes-calls t) (hexes-at t) hexes.Post
-hexes-none-requires-2 t c κs = search needs
-
-hexes-same-length-2 : (t : ℕ) → hexes-lts.Need-same-length-2 (hexes-calls t) (hexes-at t) hexes.Post
-hexes-same-length-2 t c = search needs
 
 hexes-returns-2 : (t : ℕ) → hexes-lts.Need-returns-2 (hexes-calls t) (hexes-at t) hexes.Post
 hexes-returns-2 t c = as-is (hexes-end _ _ (c .before .before .before .before .if2 .taken)) (c .before .before .none2 .ensures)
 
-hexes-letter-requires : (t : ℕ) → hexes-lts.Need-letter-requires (hexes-calls t) (hexes-at t) hexes.Post
-hexes-letter-requires t c κs = search needs
-
-hexes-put-requires : (t : ℕ) → hexes-lts.Need-put-requires (hexes-calls t) (hexes-at t) hexes.Post
-hexes-put-requires t c κs = search needs
-
-hexes-mul-hexes : (t : ℕ) → hexes-lts.Need-mul-hexes (hexes-calls t) (hexes-at t) hexes.Post
-hexes-mul-hexes t c = search needs
-
-hexes-sub-hexes : (t : ℕ) → hexes-lts.Need-sub-hexes (hexes-calls t) (hexes-at t) hexes.Post
-hexes-sub-hexes t c = search needs
-
 hexes-hexes-requires : (t : ℕ) → hexes-lts.Need-hexes-requires (hexes-calls t) (hexes-at t) hexes.Post
 hexes-hexes-requires t c κs = (search needs, tt)
-
-hexes-same-length-3 : (t : ℕ) → hexes-lts.Need-same-length-3 (hexes-calls t) (hexes-at t) hexes.Post
-hexes-same-length-3 t c = search needs
 
 hexes-returns-3 : (t : ℕ) → hexes-lts.Need-returns-3 (hexes-calls t) (hexes-at t) hexes.Post
 hexes-returns-3 t c = as-is (hexes-more _ _ (c .before .before .before .before .before .before .before .before .before .before .if1 .left) (c .before .before .before .before .before .before .before .before .before .if2 .left) (c .before .before .before .before .before .before .before .letter .ensures)) (then (c .before .before .before .before .before .before .put .ensures) (c .before .before .hexes .ensures))
@@ -68,16 +40,16 @@ pub +hexes-spec : {M : Type 1} → statement M
 +hexes-spec = close μ-hexes λ t. hexes-lts.spec (hexes-calls t)
     (hexes-at t)
     hexes.Post
-    (hexes-none-requires t)
-    (hexes-same-length t)
+    (λ c κs. search needs)
+    (λ c. search needs)
     (hexes-returns t)
-    (hexes-none-requires-2 t)
-    (hexes-same-length-2 t)
+    (λ c κs. search needs)
+    (λ c. search needs)
     (hexes-returns-2 t)
-    (hexes-letter-requires t)
-    (hexes-put-requires t)
-    (hexes-mul-hexes t)
-    (hexes-sub-hexes t)
+    (λ c κs. search needs)
+    (λ c κs. search needs)
+    (λ c. search needs)
+    (λ c. search needs)
     (hexes-hexes-requires t)
-    (hexes-same-length-3 t)
+    (λ c. search needs)
     (hexes-returns-3 t)

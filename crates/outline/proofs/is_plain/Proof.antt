@@ -2,22 +2,16 @@ use mathlib.Core.Path.{refl}
 use Rattle.outline.proofs.Laws.{plain-low, plain-high, plain-quote, plain-rest}
 use Rattle.outline.proofs.is_plain.Statement.{statement}
 use Rattle.outline.proofs.is_plain.Tie as tie
-use Rattle.outline.proofs.is_plain.Reads as reads
-use Rattle.outline.proofs.is_plain.Lts as lts
 
--- src/lib.rt:110:9
 returns : tie.Need-returns
 returns c = plain-low _ (c .if1 .taken)
 
--- src/lib.rt:113:9
 returns-2 : tie.Need-returns-2
 returns-2 c = plain-high _ (c .before .if1 .left) (c .if2 .taken)
 
--- src/lib.rt:116:9
 returns-3 : tie.Need-returns-3
 returns-3 c = plain-quote _ (c .if3 .taken)
 
--- src/lib.rt:106:1
 returns-4 : tie.Need-returns-4
 returns-4 c = plain-rest _ (c .before .before .if1 .left) (c .before .if2 .left) (c .if3 .left) refl
 

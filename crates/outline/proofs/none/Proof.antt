@@ -3,14 +3,10 @@ use native.Mathlib.Omega.{arith}
 use Rattle.outline.proofs.Laws.{says-none, says-full}
 use Rattle.outline.proofs.none.Statement.{statement}
 use Rattle.outline.proofs.none.Tie as tie
-use Rattle.outline.proofs.none.Reads as reads
-use Rattle.outline.proofs.none.Lts as lts
 
--- src/lib.rt:15:9
 returns : tie.Need-returns
 returns c = says-full _ _ [] (c .if1 .taken)
 
--- src/lib.rt:11:1
 returns-2 : tie.Need-returns-2
 returns-2 c = says-none _ _ (omega (arith, c .if1 .left))
 

@@ -1,14 +1,10 @@
 use Rattle.outline.proofs.Laws.{unit-zero, unit-one}
 use Rattle.outline.proofs.unit.Statement.{statement}
 use Rattle.outline.proofs.unit.Tie as tie
-use Rattle.outline.proofs.unit.Reads as reads
-use Rattle.outline.proofs.unit.Lts as lts
 
--- src/lib.rt:213:9
 returns : tie.Need-returns
 returns c = unit-zero _ (c .if1 .taken)
 
--- src/lib.rt:209:1
 returns-2 : tie.Need-returns-2
 returns-2 c = unit-one _ (c .if1 .left)
 

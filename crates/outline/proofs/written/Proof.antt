@@ -1,18 +1,13 @@
 use Rattle.outline.proofs.Laws.{written-own, written-zero, written-small}
 use Rattle.outline.proofs.written.Statement.{statement}
 use Rattle.outline.proofs.written.Tie as tie
-use Rattle.outline.proofs.written.Reads as reads
-use Rattle.outline.proofs.written.Lts as lts
 
--- src/lib.rt:187:9
 returns : tie.Need-returns
 returns c = written-own _ _ (c .if1 .taken)
 
--- src/lib.rt:190:9
 returns-2 : tie.Need-returns-2
 returns-2 c = written-zero _ _ (c .before .if1 .left) (c .if2 .taken)
 
--- src/lib.rt:183:1
 returns-3 : tie.Need-returns-3
 returns-3 c = written-small _ _ (c .before .if1 .left) (c .if2 .left)
 

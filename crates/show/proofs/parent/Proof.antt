@@ -6,10 +6,6 @@ use mathlib.Core.Path.{_≡_}
 use borrow.Author.Needs.{needs}
 use Rattle.show.proofs.parent.Statement.{statement}
 use Rattle.show.proofs.parent.Tie as tie
-use Rattle.show.proofs.parent.Reads as reads
-use Rattle.show.proofs.parent.Lts as lts
-use Rattle.show.proofs.choose.Reads as choose-reads
-use Rattle.show.proofs.covers.Reads as covers-reads
 
 abbrev Inv-loop : tie.InvT-loop
 Inv-loop book i p₀ j₀ p j = (j ≤ i) × (p ≤ i) × (p ≡ lastBelow (covers book i) j)
@@ -17,31 +13,12 @@ Inv-loop book i p₀ j₀ p j = (j ≤ i) × (p ≤ i) × (p ≡ lastBelow (cove
 abbrev μ-loop : tie.MeasureT-loop
 μ-loop book i p₀ j₀ p j = i - j
 
--- src/main.rt:396:5
 loop-holds : tie.Need-loop-holds Inv-loop μ-loop
 loop-holds c = (search needs, search needs, last-none _)
 
--- src/main.rt:397:20
-covers-requires : tie.Need-covers-requires Inv-loop μ-loop
-covers-requires c κs = search needs
-
--- src/main.rt:397:9
-choose-requires : tie.Need-choose-requires Inv-loop μ-loop
-choose-requires c κs = search needs
-
--- src/main.rt:398:9
-add-j : tie.Need-add-j Inv-loop μ-loop
-add-j c = search needs
-
--- src/main.rt:396:5
-loop-less : tie.Need-loop-less Inv-loop μ-loop
-loop-less c = search needs
-
--- src/main.rt:396:5
 loop-again : tie.Need-loop-again Inv-loop μ-loop
 loop-again c = (search needs, search needs, parent-more _ _ _ (c .before .before .before .loop .inv .2) (c .before .covers .ensures) (c .choose .ensures .0))
 
--- src/main.rt:390:1
 returns : tie.Need-returns Inv-loop μ-loop
 returns c = (parent-end _ _ _ (c .before .loop .inv .0) (c .loop-test .left) (c .before .loop .inv .2), c .before .loop .inv .1)
 
@@ -52,9 +29,9 @@ parent-spec =
     Inv-loop
     μ-loop
     loop-holds
-    covers-requires
-    choose-requires
-    add-j
-    loop-less
+    (λ c κs. search needs)
+    (λ c κs. search needs)
+    (λ c. search needs)
+    (λ c. search needs)
     loop-again
     returns)
