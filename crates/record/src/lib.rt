@@ -4,7 +4,7 @@ ghost use Prim.Native.Nat.{_+_, _*_, _<_, _≤_};
 ghost use lib.ListN.{length};
 ghost use Rattle.record.specs.Bytes.{byteOf, spanOf, bigOf};
 ghost use Rattle.record.specs.Forest.{spanIn};
-ghost use Rattle.record.specs.Refusals.{badLine, tooMany, noRecord, cutShort, badField, badPlace, noRoom, badRun};
+ghost use Rattle.record.specs.Refusals.{badLine, tooMany, noRecord, cutShort, badField, badPlace, noRoom, badRun, refusalNumber};
 
 // The bytes of a record, and of an entry of a request.
 pub const SIZE: usize = 16;
@@ -93,6 +93,14 @@ pub fn bad_run() -> Refusal
         part: 4,
         line: 0,
     }
+}
+
+// A refusal as one number. No refusal has a line past 1,000.
+pub fn refusal_number(r: Refusal) -> u64
+    requires { ⌜ r .line ≤ 1000 ⌝ }
+    ensures { λ x. ⌜ x ≡ refusalNumber r ⌝ }
+{
+    255 + 256 * r.number as u64 + 65536 * r.line as u64 + 4294967296 * r.part as u64
 }
 
 // A byte, wide. What the contract says of it spares its callers a fact about the element.

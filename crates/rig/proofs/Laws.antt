@@ -8,7 +8,7 @@ use native.Mathlib.Numerals.{add-one}
 use native.Mathlib.Omega.{arith}
 use borrow.Author.Tests.{lt-ltb, le-ltb}
 use borrow.Rule.Slice.PartMut.{putMid}
-use Rattle.record.specs.Refusals.{noRoom}
+use Rattle.record.specs.Refusals.{noRoom, refusalNumber}
 use Rattle.record.specs.declared.Refusal.{Refusal}
 use Rattle.meaning.specs.declared.Decision.{Decision}
 use Rattle.programme.specs.declared.State.{State}
@@ -19,7 +19,7 @@ use Rattle.run.specs.declared.kinds.Tick.{Tick}
 use Rattle.translator.specs.Translate.{translateOf, leaves}
 use Rattle.translator.specs.declared.Translated.{Translated}
 use Rattle.translator.specs.declared.Translated.the-variants as translated
-use Rattle.rig.specs.Rig.{refusalNumber, noState, stateIn, numbersOf, over, call, put, freshCall, runningNumber, finishedNumber, tickIn, tickCall, translatedNumber}
+use Rattle.rig.specs.Rig.{noState, stateIn, numbersOf, over, call, put, freshCall, runningNumber, finishedNumber, tickIn, tickCall, translatedNumber}
 use Rattle.rig.proofs.Bounds.{Small, tick-small, long-enough, translate-small}
 
 -- a copy that has come to its end

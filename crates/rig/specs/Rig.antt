@@ -5,7 +5,7 @@ use mathlib.Core.List.{List, _∷_, _++_}
 use lib.Dec.{ltb}
 use lib.ListN.{length, take, drop, getD, replicate}
 use Rattle.record.specs.Choose.{if, either}
-use Rattle.record.specs.Refusals.{noRoom}
+use Rattle.record.specs.Refusals.{noRoom, refusalNumber}
 use Rattle.record.specs.declared.Refusal.{Refusal}
 use Rattle.meaning.specs.Numbers.{numberOf}
 use Rattle.meaning.specs.declared.Decision.{Decision}
@@ -17,10 +17,6 @@ use Rattle.run.specs.declared.kinds.Answer.the-variants.{Running, Finished, Ref
 use Rattle.run.specs.declared.kinds.Tick.{Tick}
 use Rattle.translator.specs.declared.Translated.{Translated}
 use Rattle.translator.specs.declared.Translated.the-variants as translated
-
--- LAB
-abbrev pub refusalNumber : Refusal → ℕ
-refusalNumber r = 255 + 256 * r .number + 65536 * r .line + 4294967296 * r .part
 
 -- the numbers of a state: the first number, 17 frames, 15 levels
 abbrev pub numbersOf : State → List ℕ
@@ -75,6 +71,7 @@ finishedNumber d count steps = numberOf d + 256 * count + 4294967296 * steps
 unfoldable pub tickIn : List ℕ → List ℕ → List ℕ → List ℕ → ℕ → List ℕ → Ticked
 tickIn p q numbers places budget out = tickOf p q (stateIn numbers places) budget out
 
+-- what a tick's answer makes of the call
 abbrev pub answered : Answer → Tick → List ℕ → List ℕ → Call
 answered Running t numbers places = put (runningNumber (t .steps)) (t .state) numbers places
 answered (Finished d count) t numbers places = put (finishedNumber d count (t .steps)) (t .state) numbers places

@@ -1,7 +1,6 @@
 // The calls of the rig's loop. They take apart what is lent, call the functions of other crates, and put together what those give.
 use meaning::Decision;
 use programme::State;
-use record::Refusal;
 use run::kinds::Answer;
 use translator::Translated;
 ghost use mathlib.Core.Path.{_≡_};
@@ -9,13 +8,14 @@ ghost use mathlib.Core.List.{_∷_, _++_};
 ghost use Prim.Native.Nat.{_≤_};
 ghost use lib.ListN.{length};
 ghost use Rattle.translator.specs.Translate.{translateOf, leaves};
-ghost use Rattle.rig.specs.Rig.{refusalNumber, noState, stateIn, numbersOf, over, call, freshCall, runningNumber, finishedNumber, tickIn, tickCall, translatedNumber};
+ghost use Rattle.rig.specs.Rig.{noState, stateIn, numbersOf, over, call, freshCall, runningNumber, finishedNumber, tickIn, tickCall, translatedNumber};
 
 // What a state takes: the first number, 17 frames and 15 levels; and its places.
 const NUMBERS: usize = 33;
 
 const PLACES: usize = 1000;
 
+// Copies numbers, and places, from one slice to another as long.
 fn copy_numbers(from: &[u64], to: &mut [u64])
     requires { ⌜ length (now from) ≡ length (now to) ⌝ }
     ensures { λ _. ⌜ now (to .exit) ≡ now (from .entry) ⌝ }
@@ -50,7 +50,7 @@ fn no_state() -> State
     }
 }
 
-// The state that lent numbers and places hold.
+// The state that lent numbers and places hold; where they are too short for one, none that the layout allows.
 fn state_in(numbers: &[u64], places: &[u16]) -> State
     ensures { λ r. ⌜ r ≡ stateIn (now (numbers .entry)) (now (places .entry)) ⌝ }
 {
@@ -104,14 +104,6 @@ fn put_state(state: State, numbers: &mut [u64], places: &mut [u16])
     put_places(&held, places);
 }
 
-// LAB
-fn refusal_number(r: Refusal) -> u64
-    requires { ⌜ r .line ≤ 1000 ⌝ }
-    ensures { λ x. ⌜ x ≡ refusalNumber r ⌝ }
-{
-    255 + 256 * r.number as u64 + 65536 * r.line as u64 + 4294967296 * r.part as u64
-}
-
 // Translates a book into lent entries: 256 times their number, or the refusal.
 #[no_mangle]
 pub extern "C" fn bachumoi_translate(book: &[u8], programme: &mut [u64]) -> u64
@@ -120,7 +112,7 @@ pub extern "C" fn bachumoi_translate(book: &[u8], programme: &mut [u64]) -> u64
 {
     match translator::translate(book, programme) {
         Translated::Entries(n) => 256 * n as u64,
-        Translated::Refused(why) => refusal_number(why),
+        Translated::Refused(why) => record::refusal_number(why),
     }
 }
 
@@ -130,15 +122,16 @@ pub extern "C" fn bachumoi_fresh(numbers: &mut [u64], places: &mut [u16]) -> u64
     ensures { λ r. ⌜ call r (now (numbers .exit)) (now (places .exit)) ≡ freshCall (now (numbers .entry)) (now (places .entry)) ⌝ }
 {
     if numbers.len() < NUMBERS {
-        return refusal_number(record::no_room());
+        return record::refusal_number(record::no_room());
     }
     if places.len() < PLACES {
-        return refusal_number(record::no_room());
+        return record::refusal_number(record::no_room());
     }
     put_state(run::fresh(), numbers, places);
     0
 }
 
+// A tick's number: running, with the steps that it took; or finished, with the decision and how many obligations.
 fn running(steps: u64) -> u64
     requires { ⌜ steps ≤ 8008 ⌝ }
     ensures { λ r. ⌜ r ≡ runningNumber steps ⌝ }
@@ -153,7 +146,7 @@ fn finished(decision: Decision, count: u64, steps: u64) -> u64
     meaning::number(decision) as u64 + 256 * count + 4294967296 * steps
 }
 
-// Takes one tick of the state in lent numbers and places: its answer as one number.
+// Takes one tick of the state in lent numbers and places: its answer as one number. A refusal leaves all that is lent as it was.
 #[no_mangle]
 pub extern "C" fn bachumoi_tick(
     programme: &[u64],
@@ -172,7 +165,7 @@ pub extern "C" fn bachumoi_tick(
     let answer = ticked.answer;
     let after = ticked.state;
     match answer {
-        Answer::Refused(why) => refusal_number(why),
+        Answer::Refused(why) => record::refusal_number(why),
         Answer::Running => {
             put_state(after, numbers, places);
             running(ticked.steps)
