@@ -2,15 +2,16 @@
 use Prim.Native.Nat.{ℕ, _+_, _*_, _/_, _%_}
 use mathlib.Core.List.{List, [], _∷_}
 use lib.ListN.{length}
+use Rattle.record.specs.Refusals.{refusalNumber}
 use Rattle.meaning.specs.Numbers.{numberOf}
 use Rattle.decider.specs.Outcome.{dutiesOf, outcomeOf, filled}
 use Rattle.decider.specs.declared.Outcome.{Outcome}
 use Rattle.decider.specs.declared.Outcome.the-variants.{Decided, Refused}
 
--- decision + 256 x count, or 255 + 256 x number + 65,536 x line + 4,294,967,296 x part
+-- decision + 256 x count, or a refusal as one number
 abbrev pub hostNumber : Outcome → ℕ
 hostNumber (Decided d n) = numberOf d + 256 * n
-hostNumber (Refused r) = 255 + 256 * (r .number) + 65536 * (r .line) + 4294967296 * (r .part)
+hostNumber (Refused r) = refusalNumber r
 
 -- obligations as byte pairs, big-endian
 unfoldable pub pairsOf : List ℕ → List ℕ

@@ -1,12 +1,11 @@
 // The call for a C host.
 use decider::Outcome;
 use meaning::Decision;
-use record::Refusal;
 ghost use mathlib.Core.Path.{_≡_};
 ghost use mathlib.Core.List.{_++_};
 ghost use Prim.Native.Nat.{_+_, _*_, _-_, _/_, _≤_, min};
 ghost use lib.ListN.{length, take, drop, replicate};
-ghost use Rattle.decider.specs.declared.Outcome.the-variants.{Decided, Refused};
+ghost use Rattle.decider.specs.declared.Outcome.the-variants.{Decided};
 ghost use Rattle.host.specs.Host.{hostNumber, pairsOf, hostOutcome, hostOut};
 
 // No book has more obligation records.
@@ -60,13 +59,6 @@ fn decided(d: Decision, n: usize) -> u64
     meaning::number(d) as u64 + 256 * n as u64
 }
 
-fn refused(r: Refusal) -> u64
-    requires { ⌜ r .line ≤ 1000 ⌝ }
-    ensures { λ x. ⌜ x ≡ hostNumber (Refused r) ⌝ }
-{
-    255 + 256 * r.number as u64 + 65536 * r.line as u64 + 4294967296 * r.part as u64
-}
-
 // Decides in these places: one for each pair of bytes of out, or as many as any book needs.
 fn decide_in(book: &[u8], request: &[u8], places: &mut [u16], out: &mut [u8]) -> u64
     requires { ⌜ length (now places) ≡ min (length (now out) / 2) 1000 ⌝ }
@@ -74,7 +66,7 @@ fn decide_in(book: &[u8], request: &[u8], places: &mut [u16], out: &mut [u8]) ->
         × (now (out .exit) ≡ hostOut (now (book .entry)) (now (request .entry)) (now (out .entry))) ⌝ }
 {
     match decider::decide(book, request, places) {
-        Outcome::Refused(r) => refused(r),
+        Outcome::Refused(r) => record::refusal_number(r),
         Outcome::Decided(d, n) => {
             put_pairs(places, n, out);
             clear(out, n * 2);

@@ -1,8 +1,9 @@
 -- An answer as one number: a refusal as document 01 packs it for the C host, and otherwise 256 times the places. Assumes nothing.
 use Prim.Native.Nat.{ℕ, _+_, _*_}
+use Rattle.record.specs.Refusals.{refusalNumber}
 use Rattle.text.specs.declared.Filled.{Filled}
 use Rattle.text.specs.declared.Filled.the-variants.{Places, Refused}
 
 unfoldable pub packedOf : Filled → ℕ
 packedOf (Places m) = 256 * m
-packedOf (Refused r) = 255 + 256 * r .number + 65536 * r .line + 4294967296 * r .part
+packedOf (Refused r) = refusalNumber r
