@@ -7,8 +7,7 @@ enum { FRAMES = 17, LEVELS = 15, NUMBERS = 1 + FRAMES + LEVELS, PLACES = 1000, M
 
 /* What bits 0-3 of an entry say. */
 enum entry {
-    E_BEGIN, E_MATCH, E_COMPARE, E_OPEN, E_CLOSE, E_RULE, E_ENTER, E_APPLIES, E_CONCLUDE, E_OBLIGE, E_LEAVE, E_SHIFT,
-    E_FINISH
+    E_BEGIN, E_MATCH, E_COMPARE, E_OPEN, E_CLOSE, E_RULE, E_ENTER, E_APPLIES, E_CONCLUDE, E_OBLIGE, E_LEAVE, E_FINISH
 };
 
 /* The algorithms by their numbers in a programme. */
@@ -16,6 +15,9 @@ enum algorithm { FIRST, RULES_DENY, RULES_PERMIT, POLICIES_DENY, POLICIES_PERMIT
 
 /* Where the way of an entry begins. */
 enum { WAY = 4, WAY_OF_RULE = 5, WAY_OF_COMPARE = 40, WAY_OF_MATCH = 43, WAY_OUT = 13 };
+
+/* Where the cut of the first entry begins. */
+enum { CUT = 7 };
 
 /* ---- Translating an accepted book -------------------------------------------------------------------------- */
 
@@ -145,12 +147,13 @@ static unsigned algorithm_of(const uint8_t *record)
     return *record == POLICY ? over_rules[record[1]] : over_policies[record[1]];
 }
 
-/* A policy or set, in a set by this algorithm. */
-static void put_tree(struct pen *pen, const uint8_t *record, unsigned above, size_t *chain)
+static void put_tree(struct pen *pen, const uint8_t *record, unsigned above, size_t *chain);
+
+/* What stands between entering and leaving a policy or set, in a set by the algorithm above. */
+static void put_inside(struct pen *pen, const uint8_t *record, unsigned above, size_t *chain)
 {
     const uint8_t *end = after(record);
     unsigned algorithm = algorithm_of(record);
-    put(pen, E_ENTER | (uint64_t)algorithm << 4);
     size_t first = pen->at, children = 0;
     const uint8_t *child = put_target(pen, record + SIZE, end);
     size_t behind = pen->at;
@@ -166,6 +169,12 @@ static void put_tree(struct pen *pen, const uint8_t *record, unsigned above, siz
     for (; child != end; child += SIZE)
         put(pen, E_OBLIGE | (uint64_t)(child[1] - PERMIT) << 4 | (uint64_t)big2(child + 6) << 5);
     lead_out(pen, first, behind);
+}
+
+static void put_tree(struct pen *pen, const uint8_t *record, unsigned above, size_t *chain)
+{
+    put(pen, E_ENTER | (uint64_t)algorithm_of(record) << 4);
+    put_inside(pen, record, above, chain);
     put_in_chain(pen, E_LEAVE, chain);
 }
 
@@ -177,19 +186,17 @@ uint64_t plain_translate(const uint8_t *book, size_t book_len, uint64_t *program
     if (programme_len < 8 * (book_len / SIZE) + 8)
         return refusal(7, OF_OUTPUT, 0);
 
-    size_t permits = 0, denies = 0, chain = 0;
+    size_t permits = 0, denies = 0;
     for (const uint8_t *record = book; record != book + book_len; record += SIZE) {
         permits += *record == OBLIGATION && record[1] == PERMIT;
         denies += *record == OBLIGATION && record[1] == DENY;
     }
     struct pen pen = { programme, 0 };
-    put(&pen, E_BEGIN | (uint64_t)permits << 4);
-    put_tree(&pen, book, FIRST, &chain);
-    lead_here(&pen, chain);
-    put(&pen, E_CONCLUDE);
-    for (size_t i = 0; i < (denies + AT_ONCE - 1) / AT_ONCE; i++)
-        put(&pen, E_SHIFT);
+    put(&pen, E_BEGIN | (uint64_t)algorithm_of(book) << 4 | (uint64_t)permits << CUT);
+    put_inside(&pen, book, FIRST, NULL);
     put(&pen, E_FINISH);
+    for (size_t brought = AT_ONCE; brought < denies; brought += AT_ONCE)
+        put(&pen, E_FINISH);
     return 256 * (uint64_t)pen.at;
 }
 
@@ -573,23 +580,23 @@ static inline bool step_leave(struct run *run, uint64_t way)
     return go_on(run, settled ? way : 0, R_PERMIT);
 }
 
-static inline bool step_begin(struct run *run, uint64_t cut)
+static inline bool step_begin(struct run *run, uint64_t algorithm, uint64_t cut)
 {
     if (cut > PLACES)
         return false;
     run->cut = (unsigned)cut;
     run->permits = run->denies = 0;
+    step_enter(run, algorithm);
+    run->at--;
     return go_on(run, 0, R_PERMIT);
 }
 
-static inline bool step_shift(struct run *run, size_t left)
+static inline bool step_finish(struct run *run)
 {
-    if (run->reg != R_DENY || run->permits >= run->denies) {
-        run->at += left > 0 ? left : 1;
-        return true;
-    }
-    for (unsigned i = 0; i < AT_ONCE && run->permits < run->denies; i++, run->permits++)
-        run->places[run->permits] = run->places[run->cut + run->permits];
+    if (run->reg == R_DENY)
+        for (unsigned i = 0; i < AT_ONCE && run->permits < run->denies; i++, run->permits++)
+            run->places[run->permits] = run->places[run->cut + run->permits];
+    run->over = run->reg != R_DENY || run->permits >= run->denies;
     run->at++;
     return true;
 }
@@ -604,7 +611,7 @@ static inline bool step(struct run *run)
     unsigned effect = field(entry, 4, 1);
     switch (entry & 15) {
     case E_BEGIN:
-        return step_begin(run, n);
+        return step_begin(run, n & 7, entry >> CUT);
     case E_MATCH:
         return step_match(run, entry, left);
     case E_COMPARE:
@@ -625,12 +632,8 @@ static inline bool step(struct run *run)
         return step_oblige(run, effect, rest);
     case E_LEAVE:
         return n <= left && step_leave(run, n);
-    case E_SHIFT:
-        return step_shift(run, left);
     case E_FINISH:
-        run->at++;
-        run->over = true;
-        return true;
+        return step_finish(run);
     default:
         return false;
     }

@@ -26,11 +26,11 @@ use Rattle.demand.specs.Course.{Course}
 abbrev pub Bytes : List ℕ → Type 0
 Bytes b = (i : ℕ) → getD b i 0 < 256
 
--- it has 1 to 4n + 3 entries, and whatever the request, its run from the fresh state ends within them with the decision and the obligations of the meaning
+-- it has 1 to 4n entries, and whatever the request, its run from the fresh state ends within them with the decision and the obligations of the meaning
 abbrev pub RunsRight : Type 0
 RunsRight =
     (b : List ℕ) (n o : ℕ) → Bytes b → judgeOf b ≡ book.Accepted n o
-    → (0 < length (programmeOf b)) × (length (programmeOf b) ≤ 4 * n + 3)
+    → (0 < length (programmeOf b)) × (length (programmeOf b) ≤ 4 * n)
     × ((g : Bags) → Course (programmeOf b) g (decides g (bookOf b)) (obliges g (bookOf b)))
 
 -- the state after ticks with these budgets, one after another, each with the same request and the places that the one before left

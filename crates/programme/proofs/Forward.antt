@@ -24,8 +24,8 @@ use Rattle.programme.specs.declared.Frame.{Frame}
 use Rattle.programme.specs.declared.Level.{Level}
 use Rattle.programme.specs.declared.Placing.{Placing}
 use Rattle.programme.specs.declared.Placing.the-variants.{Rest, AddPermit, AddDeny, FallPermit, FallDeny, FallBoth, Cut, Down}
-use Rattle.programme.specs.Entry.{Entry, begin, match, further, opens, compare, close, rule, enter, applies, conclude, oblige, leave, shift, finish, extra, reach, fits, lawful}
-use Rattle.programme.specs.Core.{Changing, keep, push, swap, below, back, past, told, settledBy, targetDone, sectionDone, conjunctionDone, matchDone, tell, closed, concluded, noted, pushed, shifted, core}
+use Rattle.programme.specs.Entry.{Entry, begin, match, further, opens, compare, close, rule, enter, applies, conclude, oblige, leave, finish, extra, reach, fits, lawful}
+use Rattle.programme.specs.Core.{Changing, keep, push, swap, below, back, past, told, settledBy, targetDone, sectionDone, conjunctionDone, matchDone, tell, closed, concluded, noted, pushed, finished, core}
 use Rattle.programme.specs.Machine.{roomF, roomL, heightAfter, permitsAfter, deniesAfter, cutAfter}
 use Rattle.programme.specs.Layout.{unpackOf, allowed, fetch}
 use Rattle.programme.specs.Step.{headAfter, after, seen, mayStep, stepOf}
@@ -68,7 +68,7 @@ past-far false n r = omega arith
 pub inside : (e : Entry) (g : Bags) (long : ℕ) (h : Head) (l m : Level) (f b : Frame) → h .at + suc (reach e) ≤ long
     → h .at + suc (extra e + core g long h e l m f b .next .jump) ≤ long
 unfolding core
-inside (begin c) g long h l m f b w = w
+inside (begin al c) g long h l m f b w = w
 inside (match t k c s i j x) g long h l m f b w = let z = match-far (andOf (h .ands) (matchOf g t)) k c s i j x (h .ors) (h .sections) (h .reg) in omega (arith, w, z)
 inside further g long h l m f b w = w
 inside (opens op) g long h l m f b w = w
@@ -102,18 +102,17 @@ inside (conclude n) g long h l m f b w = let z = go (result (f .alg) (f .acc)) i
     go Indeterminate = omega arith
 inside (oblige e n) g long h l m f b w = w
 inside (leave n) g long h l m f b w = let z = past-far (settled (b .alg) (absorb (b .alg) (b .acc) Permits (h .reg))) n Permit in omega (arith, w, z)
-inside shift g long h l m f b w = go (both (is (h .reg) Deny) (ltb (h .permits) (h .denies)))
+inside finish g long h l m f b w = go (both (is (h .reg) Deny) (ltb (h .permits) (h .denies)))
   where
-    go : (x : Bool) → h .at + suc (0 + shifted x long h .next .jump) ≤ long
-    go true = omega (arith, w)
-    go false = omega (arith, w)
-inside finish g long h l m f b w = w
+    go : (x : Bool) → h .at + suc (0 + finished x h .next .jump) ≤ long
+    go true = w
+    go false = w
 
 -- what becomes of the obligations is within reach
 pub placed-core : (e : Entry) (g : Bags) (long : ℕ) (h : Head) (l m : Level) (f b : Frame) → fits e ≡ true
     → Placed (core g long h e l m f b .placing) (h .permits) (h .denies)
 unfolding core
-placed-core (begin c) g long h l m f b w = leb-true c 1000 w
+placed-core (begin al c) g long h l m f b w = leb-true c 1000 w
 placed-core (match t k c s i j x) g long h l m f b w = tt
 placed-core further g long h l m f b w = tt
 placed-core (opens op) g long h l m f b w = tt
@@ -152,13 +151,12 @@ placed-core (oblige e n) g long h l m f b w = go e (is (h .reg) (decisionOf e))
     go Permits true = ltb-true n 65536 w
     go Denies true = ltb-true n 65536 w
 placed-core (leave n) g long h l m f b w = tt
-placed-core shift g long h l m f b w = go (is (h .reg) Deny) (ltb (h .permits) (h .denies)) refl
+placed-core finish g long h l m f b w = go (is (h .reg) Deny) (ltb (h .permits) (h .denies)) refl
   where
-    go : (y x : Bool) → ltb (h .permits) (h .denies) ≡ x → Placed (shifted (both y x) long h .placing) (h .permits) (h .denies)
+    go : (y x : Bool) → ltb (h .permits) (h .denies) ≡ x → Placed (finished (both y x) h .placing) (h .permits) (h .denies)
     go true true z = let k = ltb-true (h .permits) (h .denies) z in omega (arith, k)
     go true false z = tt
     go false x z = tt
-placed-core finish g long h l m f b w = tt
 
 depth-range : (z : Changing Frame) (k : ℕ) → k ≤ 16 → heightAfter roomF z k ≤ 16
 depth-range keep k w = w

@@ -16,7 +16,7 @@ use Rattle.programme.specs.declared.Move.{Move}
 use Rattle.programme.specs.declared.Met.{Met}
 use Rattle.programme.specs.declared.Met.the-variants.{Outside, Does}
 use Rattle.programme.specs.Entry.{Entry, further, extra, reach, fits, lawful}
-use Rattle.programme.specs.Core.{core, shifted}
+use Rattle.programme.specs.Core.{core, finished}
 use Rattle.programme.specs.Layout.{matchBy, compareBy, entryBy, entryOf, fetch}
 use Rattle.programme.specs.Moves.{moveOf, metIf, meets}
 
@@ -81,22 +81,22 @@ module _ (long at : ℕ) where
       match-lawful n literal ways ∙ lt-leb (at + 2 + suc far) long (omega arith)
 
 -- Deny's obligations are brought down while the decision is Deny and some are left
-module _ (r : Move) (long : ℕ) (h : Head) (x y : Bool) where
-  pub shift-never : x ≡ false → r ≡ moveOf (shifted false long h) → r ≡ moveOf (shifted (both x y) long h)
-  shift-never e k = rw e k
+module _ (r : Move) (h : Head) (x y : Bool) where
+  pub finish-never : x ≡ false → r ≡ moveOf (finished false h) → r ≡ moveOf (finished (both x y) h)
+  finish-never e k = rw e k
 
-  pub shift-done : x ≡ true → y ≡ false → r ≡ moveOf (shifted false long h) → r ≡ moveOf (shifted (both x y) long h)
-  shift-done e f k = rw (e, f) k
+  pub finish-done : x ≡ true → y ≡ false → r ≡ moveOf (finished false h) → r ≡ moveOf (finished (both x y) h)
+  finish-done e f k = rw (e, f) k
 
-  pub shift-more : x ≡ true → y ≡ true → r ≡ moveOf (shifted true long h) → r ≡ moveOf (shifted (both x y) long h)
-  shift-more e f k = rw (e, f) k
+  pub finish-more : x ≡ true → y ≡ true → r ≡ moveOf (finished true h) → r ≡ moveOf (finished (both x y) h)
+  finish-more e f k = rw (e, f) k
 
 -- the entry at a place, by its kind
 pub found : (p : List ℕ) (i k : ℕ) → getD p i 0 % 16 ≡ k → fetch p i ≡ entryBy k (getD p i 0 / 16) (getD p (i + 1) 0) (getD p (i + 2) 0)
 unfolding fetch entryOf
 found p i k e = rw e
 
-pub no-entry : (k n literal ways : ℕ) → 12 < k → entryBy k n literal ways ≡ further
+pub no-entry : (k n literal ways : ℕ) → 11 < k → entryBy k n literal ways ≡ further
 unfolding entryBy
 no-entry k n literal ways a =
     rw (
@@ -112,11 +112,10 @@ no-entry k n literal ways a =
       ne-eqb k 9 (λ e. omega arith),
       ne-eqb k 10 (λ e. omega arith),
       ne-eqb k 11 (λ e. omega arith),
-      ne-eqb k 12 (λ e. omega arith),
     )
 
 -- a number that no kind has
-pub lawful-none : (p : List ℕ) (i long : ℕ) → 12 < getD p i 0 % 16 → lawful long i (fetch p i) ≡ false
+pub lawful-none : (p : List ℕ) (i long : ℕ) → 11 < getD p i 0 % 16 → lawful long i (fetch p i) ≡ false
 unfolding lawful
 lawful-none p i long a = rw (found p i (getD p i 0 % 16) refl, no-entry (getD p i 0 % 16) (getD p i 0 / 16) (getD p (i + 1) 0) (getD p (i + 2) 0) a)
 
@@ -127,5 +126,5 @@ beyond : (n k : ℕ) → n ≤ k → (k ≡ n → ⊥) → n + 1 ≤ k
 beyond n k a e = omega arith
 
 pub past-all : (k : ℕ) → (k ≡ 0 → ⊥) → (k ≡ 1 → ⊥) → (k ≡ 2 → ⊥) → (k ≡ 3 → ⊥) → (k ≡ 4 → ⊥) → (k ≡ 5 → ⊥) → (k ≡ 6 → ⊥) → (k ≡ 7 → ⊥)
-    → (k ≡ 8 → ⊥) → (k ≡ 9 → ⊥) → (k ≡ 10 → ⊥) → (k ≡ 11 → ⊥) → (k ≡ 12 → ⊥) → 12 < k
-past-all k a0 a1 a2 a3 a4 a5 a6 a7 a8 a9 a10 a11 a12 = let b4 = beyond 3 k (beyond 2 k (beyond 1 k (beyond 0 k (none-below k) a0) a1) a2) a3 in let b8 = beyond 7 k (beyond 6 k (beyond 5 k (beyond 4 k b4 a4) a5) a6) a7 in let b12 = beyond 11 k (beyond 10 k (beyond 9 k (beyond 8 k b8 a8) a9) a10) a11 in beyond 12 k b12 a12
+    → (k ≡ 8 → ⊥) → (k ≡ 9 → ⊥) → (k ≡ 10 → ⊥) → (k ≡ 11 → ⊥) → 11 < k
+past-all k a0 a1 a2 a3 a4 a5 a6 a7 a8 a9 a10 a11 = let b4 = beyond 3 k (beyond 2 k (beyond 1 k (beyond 0 k (none-below k) a0) a1) a2) a3 in let b8 = beyond 7 k (beyond 6 k (beyond 5 k (beyond 4 k b4 a4) a5) a6) a7 in beyond 11 k (beyond 10 k (beyond 9 k (beyond 8 k b8 a8) a9) a10) a11

@@ -24,8 +24,8 @@ use Rattle.programme.specs.declared.Frame.{Frame}
 use Rattle.programme.specs.declared.Level.{Level}
 use Rattle.programme.specs.declared.Placing.{Placing}
 use Rattle.programme.specs.declared.Placing.the-variants.{Rest, AddPermit, AddDeny, FallPermit, FallDeny, FallBoth, Cut, Down}
-use Rattle.programme.specs.Entry.{Entry, begin, match, further, opens, compare, close, rule, enter, applies, conclude, oblige, leave, shift, finish}
-use Rattle.programme.specs.Core.{Changing, keep, push, swap, below, back, tell, closed, concluded, noted, pushed, shifted, core}
+use Rattle.programme.specs.Entry.{Entry, begin, match, further, opens, compare, close, rule, enter, applies, conclude, oblige, leave, finish}
+use Rattle.programme.specs.Core.{Changing, keep, push, swap, below, back, tell, closed, concluded, noted, pushed, finished, core}
 use Rattle.programme.specs.Machine.{roomF, roomL, stackAfter, copies, placesAfter}
 use Rattle.programme.specs.Layout.{frameWord, levelWord, fetch}
 use Rattle.programme.specs.Step.{inWords, after, seen, mayStep, stepOf}
@@ -34,7 +34,7 @@ use Rattle.programme.specs.Local.{keyOf, headOf, entryAt, SameSight, out
 -- one bag
 core-bag : (e : Entry) (g h : Bags) → g (keyOf e) ≡ h (keyOf e) → (long : ℕ) (x : Head) (l m : Level) (f b : Frame) → core g long x e l m f b ≡ core h long x e l m f b
 unfolding core matchOf comparisonOf
-core-bag (begin c) g h e long x l m f b = refl
+core-bag (begin al c) g h e long x l m f b = refl
 core-bag (match t k c s i j y) g h e long x l m f b = rw e refl
 core-bag further g h e long x l m f b = refl
 core-bag (opens op) g h e long x l m f b = refl
@@ -46,7 +46,6 @@ core-bag (applies n) g h e long x l m f b = refl
 core-bag (conclude n) g h e long x l m f b = refl
 core-bag (oblige y n) g h e long x l m f b = refl
 core-bag (leave n) g h e long x l m f b = refl
-core-bag shift g h e long x l m f b = refl
 core-bag finish g h e long x l m f b = refl
 
 same-entry : (p q : List ℕ) (g h : Bags) (s t : State) → SameSight p q g h s t → entryAt p s ≡ entryAt q t
@@ -91,7 +90,7 @@ Modest e (Down n) = n ≤ 2
 
 modest-core : (e : Entry) (g : Bags) (long : ℕ) (h : Head) (l m : Level) (f b : Frame) → Modest e (core g long h e l m f b .placing)
 unfolding core Modest Obliges
-modest-core (begin c) g long h l m f b = tt
+modest-core (begin al c) g long h l m f b = tt
 modest-core (match t k c s i j y) g long h l m f b = tt
 modest-core further g long h l m f b = tt
 modest-core (opens op) g long h l m f b = tt
@@ -130,12 +129,11 @@ modest-core (oblige y n) g long h l m f b = go y (is (h .reg) (decisionOf y))
     go Permits true = refl
     go Denies true = refl
 modest-core (leave n) g long h l m f b = tt
-modest-core shift g long h l m f b = go (both (is (h .reg) Deny) (ltb (h .permits) (h .denies)))
+modest-core finish g long h l m f b = go (both (is (h .reg) Deny) (ltb (h .permits) (h .denies)))
   where
-    go : (x : Bool) → Modest shift (shifted x long h .placing)
+    go : (x : Bool) → Modest finish (finished x h .placing)
     go true = omega arith
     go false = tt
-modest-core finish g long h l m f b = tt
 
 copies-other : (n c m : ℕ) (xs : List ℕ) (j : ℕ) → n ≤ 2 → (j ≡ m → ⊥) → (j ≡ suc m → ⊥) → getD (copies n c m xs) j 0 ≡ getD xs j 0
 unfolding copies

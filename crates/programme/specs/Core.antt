@@ -1,7 +1,7 @@
 -- What a step does, from the entry, the two levels and the two frames on top, and the first number. It sees no obligation place. Assumes nothing.
 use Prim.Native.Nat.{ℕ, zero, suc, _+_, _-_, min}
 use mathlib.Core.Bool.{Bool, true, false}
-use lib.Dec.{ltb}
+use lib.Dec.{leb, ltb}
 use Rattle.record.specs.Choose.{if, both}
 use Rattle.meaning.specs.Logic.{andOf, orOf, notOf, targetAnd}
 use Rattle.meaning.specs.Meaning.{Bags, matchOf, comparisonOf, under, decisionOf, is}
@@ -22,7 +22,7 @@ use Rattle.programme.specs.declared.Head.{Head}
 use Rattle.programme.specs.declared.Next.{Next}
 use Rattle.programme.specs.declared.Placing.{Placing}
 use Rattle.programme.specs.declared.Placing.the-variants.{Rest, AddPermit, AddDeny, FallPermit, FallDeny, FallBoth, Cut, Down}
-use Rattle.programme.specs.Entry.{Entry, begin, match, further, opens, compare, close, rule, enter, applies, conclude, oblige, leave, shift, finish}
+use Rattle.programme.specs.Entry.{Entry, begin, match, further, opens, compare, close, rule, enter, applies, conclude, oblige, leave, finish}
 
 -- what becomes of a stack: at most one of its two on top is written
 pub data Changing (A : Type 0) : Type 0 where
@@ -147,14 +147,19 @@ pushed Denies true n = AddDeny n
 abbrev pub atOnce : ℕ
 atOnce = 2
 
--- Deny's obligations come down while some are left above; then the last entry is next. Permit's stack is empty by then, and its height counts them.
-abbrev pub shifted : Bool → ℕ → Head → Out
-shifted true long h = out (next 0 (h .reg) (h .ands) (h .ors) (h .sections)) keep keep (Down (min atOnce (h .denies - h .permits)))
-shifted false long h = out (next (long - 2 - h .at) (h .reg) (h .ands) (h .ors) (h .sections)) keep keep Rest
+-- the stacks, the register and the truths stay as they are, and the run may be over
+abbrev pub ending : Head → Bool → Placing → Out
+ending h over z = record { next = next 0 (h .reg) (h .ands) (h .ors) (h .sections); over = over; levels = keep; frames = keep; placing = z }
+
+-- Deny's obligations come down while some are left above, and the run is over with the last of them. Permit's stack is empty by then, and its
+-- height counts them.
+abbrev pub finished : Bool → Head → Out
+finished true h = ending h (leb (h .denies) (h .permits + atOnce)) (Down (min atOnce (h .denies - h .permits)))
+finished false h = ending h true Rest
 
 -- the core of a step, by the programme's length, the first number, the entry, the levels on top and below, the frames on top and below
 unfoldable pub core : Bags → ℕ → Head → Entry → Level → Level → Frame → Frame → Out
-core g long h (begin c) l m f b = out (clear 0 Permit) keep keep (Cut c)
+core g long h (begin al c) l m f b = out (clear 0 Permit) keep (push (record { alg = al; acc = start al; permits = 0; denies = 0 })) (Cut c)
 core g long h (match t k c s i j x) l m f b =
     out (matchDone (andOf (h .ands) (matchOf g t)) k c s i j x (h .ors) (h .sections) (h .reg)) keep keep Rest
 core g long h further l m f b = out (clear 0 (h .reg)) keep keep Rest
@@ -173,11 +178,4 @@ core g long h (oblige e n) l m f b = out (clear 0 (h .reg)) keep keep (pushed e 
 core g long h (leave n) l m f b =
     let a = absorb (b .alg) (b .acc) Permits (h .reg) in
     out (past (settled (b .alg) a) n Permit) keep (back (put b a)) Rest
-core g long h shift l m f b = shifted (both (is (h .reg) Deny) (ltb (h .permits) (h .denies))) long h
-core g long h finish l m f b = record {
-  next = next 0 (h .reg) (h .ands) (h .ors) (h .sections);
-  over = true;
-  levels = keep;
-  frames = keep;
-  placing = Rest;
-}
+core g long h finish l m f b = finished (both (is (h .reg) Deny) (ltb (h .permits) (h .denies))) h

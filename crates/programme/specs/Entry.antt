@@ -9,8 +9,8 @@ use Rattle.meaning.specs.declared.Algorithm.{Algorithm}
 use Rattle.programme.specs.declared.Op.{Op}
 
 pub data Entry : Type 0 where
-  -- the first entry: where the obligations on Deny begin
-  begin : ℕ → Entry
+  -- the first entry: the book's policy or set is entered, and where the obligations on Deny begin
+  begin : Algorithm → ℕ → Entry
   -- a match: is it the last of its conjunction, is that the last of its section, is that the last of its target; how many entries to leave out to
   -- the next conjunction, to the next section, and out of the target
   match : Test → Bool → Bool → Bool → ℕ → ℕ → ℕ → Entry
@@ -28,12 +28,12 @@ pub data Entry : Type 0 where
   conclude : ℕ → Entry
   oblige : Effect → ℕ → Entry
   leave : ℕ → Entry
-  -- obligations on Deny are brought down to the first places; the end
-  shift finish : Entry
+  -- the end; while some are left above, obligations on Deny are brought down to the first places before it
+  finish : Entry
 
 -- entries beside the first
 abbrev pub extra : Entry → ℕ
-extra (begin c) = 0
+extra (begin al c) = 0
 extra (match t m c l i j x) = 2
 extra further = 0
 extra (opens op) = 0
@@ -45,12 +45,11 @@ extra (applies n) = 0
 extra (conclude n) = 0
 extra (oblige e n) = 0
 extra (leave n) = 0
-extra shift = 0
 extra finish = 0
 
 -- how far an entry may lead, counted from behind it
 abbrev pub reach : Entry → ℕ
-reach (begin c) = 0
+reach (begin al c) = 0
 reach (match t m c l i j x) = 2 + max i (max j x)
 reach further = 0
 reach (opens op) = 0
@@ -62,12 +61,11 @@ reach (applies n) = n
 reach (conclude n) = n
 reach (oblige e n) = 0
 reach (leave n) = n
-reach shift = 0
 reach finish = 0
 
 -- a cut is at most 1,000, an obligation's number below 65,536, and a further entry is no first one
 abbrev pub fits : Entry → Bool
-fits (begin c) = leb c 1000
+fits (begin al c) = leb c 1000
 fits (match t m c l i j x) = true
 fits further = false
 fits (opens op) = true
@@ -79,7 +77,6 @@ fits (applies n) = true
 fits (conclude n) = true
 fits (oblige e n) = ltb n 65536
 fits (leave n) = true
-fits shift = true
 fits finish = true
 
 -- an entry at a place of a programme of so many entries: it leads no further than the programme's end

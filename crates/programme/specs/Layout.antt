@@ -26,7 +26,7 @@ use Rattle.programme.specs.declared.Op.the-variants.{All, Any, Not}
 use Rattle.programme.specs.declared.Level.{Level}
 use Rattle.programme.specs.declared.Frame.{Frame}
 use Rattle.programme.specs.declared.Head.{Head}
-use Rattle.programme.specs.Entry.{Entry, begin, match, further, opens, compare, close, rule, enter, applies, conclude, oblige, leave, shift, finish}
+use Rattle.programme.specs.Entry.{Entry, begin, match, further, opens, compare, close, rule, enter, applies, conclude, oblige, leave, finish}
 
 -- small words by number, and back; a number that no word has is read as the last one
 abbrev pub bitOf : Bool → ℕ
@@ -178,7 +178,7 @@ compareBy n literal = compare (testOf n (n / 16 % 4294967296) literal) (n / 6871
 
 unfoldable pub entryBy : ℕ → ℕ → ℕ → ℕ → Entry
 entryBy op n literal ways =
-    if (eqb op 0) (begin n)
+    if (eqb op 0) (begin (algorithmBy (n % 8)) (n / 8))
     (if (eqb op 1) (matchBy n literal ways)
     (if (eqb op 2) (compareBy n literal)
     (if (eqb op 3) (opens (opBy n))
@@ -189,8 +189,7 @@ entryBy op n literal ways =
     (if (eqb op 8) (conclude n)
     (if (eqb op 9) (oblige (effectBy (n % 2)) (n / 2))
     (if (eqb op 10) (leave n)
-    (if (eqb op 11) shift
-    (if (eqb op 12) finish further))))))))))))
+    (if (eqb op 11) finish further)))))))))))
 
 unfoldable pub entryOf : ℕ → ℕ → ℕ → Entry
 entryOf w literal ways = entryBy (w % 16) (w / 16) literal ways
@@ -204,7 +203,7 @@ unfoldable pub testWord : Test → ℕ
 testWord t = functionCode (t .function) + 8 * bitOf (t .must)
 
 unfoldable pub wordsOf : Entry → List ℕ
-wordsOf (begin c) = 16 * c ∷ []
+wordsOf (begin al c) = 16 * (algorithmCode al + 8 * c) ∷ []
 wordsOf (match t m c s i j x) =
     (1 + 16 * (testWord t + 16 * (bitOf m + 2 * (bitOf c + 2 * (bitOf s + 2 * (t .key + 4294967296 * i))))))
     ∷ t .literal
@@ -220,5 +219,4 @@ wordsOf (applies n) = (7 + 16 * n) ∷ []
 wordsOf (conclude n) = (8 + 16 * n) ∷ []
 wordsOf (oblige e n) = (9 + 16 * (effectCode e + 2 * n)) ∷ []
 wordsOf (leave n) = (10 + 16 * n) ∷ []
-wordsOf shift = 11 ∷ []
-wordsOf finish = 12 ∷ []
+wordsOf finish = 11 ∷ []

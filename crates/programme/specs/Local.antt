@@ -8,14 +8,14 @@ use lib.ListN.{length, getD}
 use Rattle.meaning.specs.Meaning.{Bags}
 use Rattle.programme.specs.declared.Head.{Head}
 use Rattle.programme.specs.declared.State.{State}
-use Rattle.programme.specs.Entry.{Entry, begin, match, further, opens, compare, close, rule, enter, applies, conclude, oblige, leave, shift, finish}
+use Rattle.programme.specs.Entry.{Entry, begin, match, further, opens, compare, close, rule, enter, applies, conclude, oblige, leave, finish}
 use Rattle.programme.specs.Core.{Out}
 use Rattle.programme.specs.Layout.{unpackOf, fetch}
 use Rattle.programme.specs.Step.{seen, mayStep, stepOf}
 
 -- the key of the one bag that a step may ask for
 abbrev pub keyOf : Entry → ℕ
-keyOf (begin c) = 0
+keyOf (begin al c) = 0
 keyOf (match t m c l i j x) = t .key
 keyOf further = 0
 keyOf (opens op) = 0
@@ -27,7 +27,6 @@ keyOf (applies n) = 0
 keyOf (conclude n) = 0
 keyOf (oblige e n) = 0
 keyOf (leave n) = 0
-keyOf shift = 0
 keyOf finish = 0
 
 abbrev pub headOf : State → Head
@@ -72,7 +71,7 @@ ChangesNoMore =
 
 -- the entry is an obligation with this number
 unfoldable pub Obliges : Entry → ℕ → Type 0
-Obliges (begin c) v = ⊥
+Obliges (begin al c) v = ⊥
 Obliges (match t m c l i j x) v = ⊥
 Obliges further v = ⊥
 Obliges (opens op) v = ⊥
@@ -84,7 +83,6 @@ Obliges (applies n) v = ⊥
 Obliges (conclude n) v = ⊥
 Obliges (oblige e n) v = v ≡ n
 Obliges (leave n) v = ⊥
-Obliges shift v = ⊥
 Obliges finish v = ⊥
 
 -- what stands in an obligation place after a step stood there, or is the number of the obligation that was met, or stood in the place that is the

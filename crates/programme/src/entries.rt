@@ -16,13 +16,13 @@ use crate::moves::moving;
 use crate::moves::past_if;
 use crate::moves::unchanged;
 use crate::policies::conclude_by;
+use crate::policies::entered;
 use crate::policies::note_in;
 use crate::policies::pushed_by;
 use crate::policies::put_in;
 use crate::policies::ruled_by;
 use crate::targets::Stands;
 use crate::targets::match_done;
-use crate::words::algorithm_by;
 use crate::words::effect_by;
 use crate::words::frame_of;
 use crate::words::frame_word;
@@ -40,8 +40,8 @@ ghost use lib.ListN.{length, getD};
 ghost use Rattle.record.specs.Choose.{both};
 ghost use Rattle.meaning.specs.Meaning.{Bags, is};
 ghost use Rattle.meaning.specs.Reading.{bagsOf};
-ghost use Rattle.programme.specs.Entry.{begin, opens, close, rule, enter, applies, conclude, oblige, leave, shift, finish};
-ghost use Rattle.programme.specs.Core.{atOnce, shifted};
+ghost use Rattle.programme.specs.Entry.{begin, opens, close, rule, enter, applies, conclude, oblige, leave, finish};
+ghost use Rattle.programme.specs.Core.{atOnce, ending, finished};
 ghost use Rattle.programme.specs.Layout.{testOf, matchBy, compareBy, effectBy, opBy, algorithmBy, levelOf, frameOf, fetch};
 ghost use Rattle.programme.specs.Moves.{Held, moveOf, metIf, meets};
 
@@ -67,11 +67,13 @@ fn reaches(long: u64, at: u64, n: u64) -> bool
 
 fn begin_at(long: u64, h: Head, n: u64) -> Met
     requires { ⌜ h .at < long ⌝ }
-    ensures { λ r. ⌜ ((g : Bags) (l m : Level) (f b : Frame) → r ≡ meets g long h (begin n) l m f b) ⌝ }
+    ensures { λ r. ⌜ ((g : Bags) (l m : Level) (f b : Frame) → r ≡ meets g long h (begin (algorithmBy (n % 8)) (n / 8)) l m f b) ⌝ }
 {
+    let cut = n / 8;
+    let w = entered(n % 8, 0, 0);
     let first = cleared(0, Decision::Permit);
-    let m = moving(first, Change::Keep, Change::Keep, Placing::Cut(n));
-    unless_outside(n <= 1000, m, 0)
+    let m = moving(first, Change::Keep, Change::Push(w), Placing::Cut(cut));
+    unless_outside(cut <= 1000, m, 0)
 }
 
 // Matches and comparisons.
@@ -212,17 +214,10 @@ fn enter_at(long: u64, h: Head, n: u64) -> Met
     requires { ⌜ (h .at < long) × Held h ⌝ }
     ensures { λ r. ⌜ ((g : Bags) (l m : Level) (f b : Frame) → r ≡ meets g long h (enter (algorithmBy n)) l m f b) ⌝ }
 {
-    let alg = algorithm_by(n);
-    let acc = algorithm::begin(alg);
     let ands = h.ands;
     let ors = h.ors;
     let sections = h.sections;
-    let w = frame_word(Frame {
-        alg,
-        acc,
-        permits: h.permits,
-        denies: h.denies,
-    });
+    let w = entered(n, h.permits, h.denies);
     let on = Next {
         jump: 0,
         reg: Decision::Permit,
@@ -310,65 +305,39 @@ fn brought_down(permits: u64, denies: u64) -> u64
     AT_ONCE
 }
 
-// How many entries lie between this one and the last.
-fn to_last(long: u64, at: u64) -> u64
-    requires { ⌜ at < long ⌝ }
-    ensures { λ r. ⌜ r ≡ long - 2 - at ⌝ }
+fn ending_by(h: Head, over: bool, placing: Placing) -> Move
+    ensures { λ r. ⌜ r ≡ moveOf (ending h over placing) ⌝ }
 {
-    if long - at < 2 {
-        return 0;
+    Move {
+        next: unchanged(h, 0),
+        over,
+        levels: Change::Keep,
+        frames: Change::Keep,
+        placing,
     }
-    long - at - 2
 }
 
-fn pass_on(long: u64, h: Head) -> Move
-    requires { ⌜ h .at < long ⌝ }
-    ensures { λ r. ⌜ r ≡ moveOf (shifted false long h) ⌝ }
-{
-    let on = unchanged(h, to_last(long, h.at));
-    moving(on, Change::Keep, Change::Keep, Placing::Rest)
-}
-
-fn shift_by(long: u64, h: Head) -> Move
-    requires { ⌜ h .at < long ⌝ }
-    ensures { λ r. ⌜ r ≡ moveOf (shifted (both (is (h .reg) (Decision.Deny)) (ltb (h .permits) (h .denies))) long h) ⌝ }
+fn finish_by(h: Head) -> Move
+    requires { ⌜ Held h ⌝ }
+    ensures { λ r. ⌜ r ≡ moveOf (finished (both (is (h .reg) (Decision.Deny)) (ltb (h .permits) (h .denies))) h) ⌝ }
 {
     let reg = h.reg;
     if !is_deny(reg) {
-        return pass_on(long, h);
+        return ending_by(h, true, Placing::Rest);
     }
     if h.denies <= h.permits {
-        return pass_on(long, h);
+        return ending_by(h, true, Placing::Rest);
     }
     let n = brought_down(h.permits, h.denies);
-    moving(
-        unchanged(h, 0),
-        Change::Keep,
-        Change::Keep,
-        Placing::Down(n),
-    )
-}
-
-fn shift_at(long: u64, h: Head) -> Met
-    requires { ⌜ h .at < long ⌝ }
-    ensures { λ r. ⌜ ((g : Bags) (l m : Level) (f b : Frame) → r ≡ meets g long h shift l m f b) ⌝ }
-{
-    unless_outside(true, shift_by(long, h), 0)
+    let over = h.denies <= h.permits + AT_ONCE;
+    ending_by(h, over, Placing::Down(n))
 }
 
 fn finish_at(long: u64, h: Head) -> Met
-    requires { ⌜ h .at < long ⌝ }
+    requires { ⌜ (h .at < long) × Held h ⌝ }
     ensures { λ r. ⌜ ((g : Bags) (l m : Level) (f b : Frame) → r ≡ meets g long h finish l m f b) ⌝ }
 {
-    let on = unchanged(h, 0);
-    let last = Move {
-        next: on,
-        over: true,
-        levels: Change::Keep,
-        frames: Change::Keep,
-        placing: Placing::Rest,
-    };
-    unless_outside(true, last, 0)
+    unless_outside(true, finish_by(h), 0)
 }
 
 // The entry at the place of the first number, with the levels and the frames on top and below.
@@ -396,8 +365,7 @@ pub fn meet(programme: &[u64], request: &[u8], h: Head, l: u64, m: u64, f: u64, 
         8 => conclude_at(long, h, n, f),
         9 => oblige_at(long, h, n),
         10 => leave_at(long, h, n, b),
-        11 => shift_at(long, h),
-        12 => finish_at(long, h),
+        11 => finish_at(long, h),
         _ => Met::Outside,
     }
 }

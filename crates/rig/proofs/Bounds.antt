@@ -20,7 +20,7 @@ use Rattle.judge.specs.declared.JudgedRequest.the-variants as judged
 use Rattle.judge.proofs.Bounds.{refused-small, refused-request-small}
 use Rattle.judge.proofs.Exactly.{accepted-keeps}
 use Rattle.programme.specs.declared.State.{State}
-use Rattle.programme.specs.Entry.{Entry, begin, match, further, opens, compare, close, rule, enter, applies, conclude, oblige, leave, shift, finish}
+use Rattle.programme.specs.Entry.{Entry, begin, match, further, opens, compare, close, rule, enter, applies, conclude, oblige, leave, finish}
 use Rattle.programme.specs.Layout.{unpackOf, allowed, wordsOf}
 use Rattle.programme.specs.Step.{stateOf, isOver}
 use Rattle.run.specs.Run.{runOf}
@@ -96,7 +96,7 @@ SmallTranslated (translated.Refused r) = r .line ≤ 1000
 
 few-words : (e : Entry) → length (wordsOf e) ≤ 3
 unfolding wordsOf
-few-words (begin c) = omega arith
+few-words (begin al c) = omega arith
 few-words (match t m c s i j x) = omega arith
 few-words further = omega arith
 few-words (opens op) = omega arith
@@ -108,7 +108,6 @@ few-words (applies n) = omega arith
 few-words (conclude n) = omega arith
 few-words (oblige e n) = omega arith
 few-words (leave n) = omega arith
-few-words shift = omega arith
 few-words finish = omega arith
 
 few-numbers : (es : List Entry) → length (inNumbers es) ≤ 3 * length es

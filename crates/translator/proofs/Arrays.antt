@@ -23,7 +23,7 @@ use Rattle.programme.specs.declared.Head.{Head}
 use Rattle.programme.specs.declared.Level.{Level}
 use Rattle.programme.specs.declared.Placing.{Placing}
 use Rattle.programme.specs.declared.Placing.the-variants.{Rest, AddPermit, AddDeny, FallPermit, FallDeny, FallBoth, Cut, Down}
-use Rattle.programme.specs.Entry.{Entry, begin, match, further, opens, compare, close, rule, enter, applies, conclude, oblige, leave, shift, finish, extra}
+use Rattle.programme.specs.Entry.{Entry, begin, match, further, opens, compare, close, rule, enter, applies, conclude, oblige, leave, finish, extra}
 use Rattle.programme.specs.Core.{Changing, keep, push, swap, below, back, Out, tell, closed, concluded, noted, pushed, core}
 use Rattle.programme.specs.Machine.{roomF, roomL, heightAfter, stackAfter, cutAfter, permitsAfter, deniesAfter, placesAfter}
 use Rattle.programme.specs.Step.{headAfter}
@@ -222,7 +222,7 @@ Light e x =
 
 light : (g : Bags) (long : ℕ) (h : Head) (e : Entry) (l m : Level) (f b : Frame) → halts e ≡ false → Light e (core g long h e l m f b)
 unfolding core Light plain permitsAdded deniesAdded
-light g long h (begin c) l m f b u = (refl, sym u, omega arith, omega arith)
+light g long h (begin al c) l m f b u = absurd (true≢false u)
 light g long h (match t n c s i j x) l m f b u = (refl, refl, omega arith, omega arith)
 light g long h further l m f b u = (refl, refl, omega arith, omega arith)
 light g long h (opens op) l m f b u = (refl, refl, omega arith, omega arith)
@@ -262,13 +262,12 @@ light g long h (oblige e n) l m f b u = let z = go e (is (h .reg) (decisionOf e)
     go Permits true = (refl, omega arith, omega arith)
     go Denies true = (refl, omega arith, omega arith)
 light g long h (leave n) l m f b u = (refl, refl, omega arith, omega arith)
-light g long h shift l m f b u = absurd (true≢false u)
-light g long h finish l m f b u = (u, refl, omega arith, omega arith)
+light g long h finish l m f b u = absurd (true≢false u)
 
 core-same : (g : Bags) (long : ℕ) (h : Head) (e : Entry) (l m : Level) (f b : Frame) → halts e ≡ false
     → core g 0 (headOf (h .nest) (h .permits) (h .denies) (h .reg) (h .ands) (h .ors) (h .sections)) e l m f b ≡ core g long h e l m f b
 unfolding core
-core-same g long h (begin c) l m f b u = refl
+core-same g long h (begin al c) l m f b u = refl
 core-same g long h (match t n c s i j x) l m f b u = refl
 core-same g long h further l m f b u = refl
 core-same g long h (opens op) l m f b u = refl
@@ -280,11 +279,10 @@ core-same g long h (applies n) l m f b u = refl
 core-same g long h (conclude n) l m f b u = refl
 core-same g long h (oblige e n) l m f b u = refl
 core-same g long h (leave n) l m f b u = refl
-core-same g long h shift l m f b u = cc
-core-same g long h finish l m f b u = refl
+core-same g long h finish l m f b u = absurd (true≢false u)
 
 no-further : (e : Entry) → halts e ≡ false → isFurther e ≡ false
-no-further (begin c) h = refl
+no-further (begin al c) h = refl
 no-further (match t m c l i j x) h = refl
 no-further further h = h
 no-further (opens op) h = refl
@@ -296,7 +294,6 @@ no-further (applies n) h = refl
 no-further (conclude n) h = refl
 no-further (oblige e n) h = refl
 no-further (leave n) h = refl
-no-further shift h = refl
 no-further finish h = refl
 
 -- a state on the way to the end: it stands at the first entry of an operation, and the layout allows it

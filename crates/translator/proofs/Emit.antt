@@ -23,12 +23,12 @@ use Rattle.meaning.specs.declared.Effect.the-variants.{Permits, Denies}
 use Rattle.meaning.specs.declared.Algorithm.{Algorithm}
 use Rattle.meaning.specs.declared.Algorithm.the-variants.{RulesDeny, RulesPermit, First, PoliciesDeny, PoliciesPermit, OnlyOne}
 use Rattle.algorithm.specs.Fold.{isOnly}
-use Rattle.programme.specs.Entry.{Entry, begin, match, further, opens, compare, close, rule, enter, applies, conclude, oblige, leave, shift, finish, extra}
+use Rattle.programme.specs.Entry.{Entry, begin, match, further, opens, compare, close, rule, enter, applies, conclude, oblige, leave, finish, extra}
 use Rattle.programme.specs.Layout.{bitOf, effectCode, opCode, algorithmCode, testWord, wordsOf}
 use Rattle.programme.specs.declared.Op.{Op}
 use Rattle.programme.specs.declared.Op.the-variants.{All, Any, Not}
-use Rattle.translator.specs.Code.{codeConjunction, codeSection, codeTarget, codeCondition, codeConditions, codeWhen, codeRule, codeRules, codeObligations, codeApplies, codeBody, codeShell, codeTree, codeTrees, owns, obligations, obligationsAll, programme, translated, inNumbers}
-use Rattle.translator.specs.Emit.{Wrote, Emitted, below, matchesCode, conjunctionCode, conjunctionsCode, sectionCode, targetCode, conditionCode, conditionsCode, whenCode, ruleCode, rulesCode, obligationsCode, treeCode, treesCode, algorithmAt, bodyCode, dueIn}
+use Rattle.translator.specs.Code.{codeConjunction, codeSection, codeTarget, codeCondition, codeConditions, codeWhen, codeRule, codeRules, codeObligations, codeApplies, codeBody, codeWithin, codeShell, codeTree, codeTrees, owns, obligations, obligationsAll, algorithmOf, codeTop, programme, translated, inNumbers}
+use Rattle.translator.specs.Emit.{Wrote, Emitted, below, matchesCode, conjunctionCode, conjunctionsCode, sectionCode, targetCode, conditionCode, conditionsCode, whenCode, ruleCode, rulesCode, obligationsCode, treeCode, treesCode, algorithmAt, bodyCode, withinCode, dueIn}
 use Rattle.translator.proofs.Size.{recsM, recsS, recsTarget, l-target, short}
 use Rattle.translator.proofs.Counted.{book-records}
 
@@ -86,7 +86,7 @@ before-fits {code} {xs} {ys} s h f =
     let e : length code ≡ length (xs ++ ys) = ap (λ (es : List Entry). length es) (s .joined) in
     omega (arith, l, e, h, f .starts)
 
--- the same of three parts, and of five
+-- the same of three parts
 pub record Three (code xs ys zs : List Entry) : Type 0 where
   pub joined : code ≡ xs ++ (ys ++ zs)
 
@@ -107,44 +107,6 @@ module _ {code xs ys zs : List Entry} (s : Three code xs ys zs) where
 
   pub three : {end m k start : ℕ} {o o₁ o₂ o₃ : List ℕ} → Emitted zs end o o₁ m → Emitted ys m o₁ o₂ k → Emitted xs k o₂ o₃ start → Emitted code end o o₃ start
   three f g e = follows {xs = xs} {ys = ys ++ zs} (record { joined = s .joined }) (follows (record { joined = refl }) f g) e
-
-pub record Five (code vs ws xs ys zs : List Entry) : Type 0 where
-  pub joined : code ≡ vs ++ (ws ++ (xs ++ (ys ++ zs)))
-
-length-five : {code vs ws xs ys zs : List Entry} → Five code vs ws xs ys zs → length code ≡ length vs + (length ws + (length xs + (length ys + length zs)))
-length-five {code} {vs} {ws} {xs} {ys} {zs} s =
-    let a = length-append vs (ws ++ (xs ++ (ys ++ zs))) in
-    let b = length-append ws (xs ++ (ys ++ zs)) in
-    let c = length-append xs (ys ++ zs) in
-    let d = length-append ys zs in
-    let e : length code ≡ length (vs ++ (ws ++ (xs ++ (ys ++ zs)))) = ap (λ (es : List Entry). length es) (s .joined) in
-    omega (arith, a, b, c, d, e)
-
-module _ {code vs ws xs ys zs : List Entry} (s : Five code vs ws xs ys zs) where
-  pub five-fits : (end : ℕ) → length code ≤ end → length zs ≤ end
-  five-fits end h = let l = length-five s in omega (arith, l, h)
-
-  module _ {end m : ℕ} {o o₁ : List ℕ} (h : length code ≤ end) (f : Emitted zs end o o₁ m) where
-    pub four-fits : length ys ≤ m
-    four-fits = let l = length-five s in omega (arith, l, h, f .starts)
-
-    module _ {k : ℕ} {o₂ : List ℕ} (g : Emitted ys m o₁ o₂ k) where
-      pub three-fits : length xs ≤ k
-      three-fits = let l = length-five s in omega (arith, l, h, f .starts, g .starts)
-
-      module _ {j : ℕ} {o₃ : List ℕ} (e : Emitted xs k o₂ o₃ j) where
-        pub two-fits : length ws ≤ j
-        two-fits = let l = length-five s in omega (arith, l, h, f .starts, g .starts, e .starts)
-
-        module _ {i : ℕ} {o₄ : List ℕ} (d : Emitted ws j o₃ o₄ i) where
-          pub one-fits : length vs ≤ i
-          one-fits = let l = length-five s in omega (arith, l, h, f .starts, g .starts, e .starts, d .starts)
-
-  pub five : {end m k j i start : ℕ} {o o₁ o₂ o₃ o₄ o₅ : List ℕ} → Emitted zs end o o₁ m → Emitted ys m o₁ o₂ k → Emitted xs k o₂ o₃ j → Emitted ws j o₃ o₄ i → Emitted vs i o₄ o₅ start
-      → Emitted code end o o₅ start
-  five f g e d c =
-      follows {xs = vs} {ys = ws ++ (xs ++ (ys ++ zs))} (record { joined = s .joined })
-      (three {xs = ws} {ys = xs} {zs = ys ++ zs} (record { joined = refl }) (follows (record { joined = refl }) f g) e d) c
 
 -- the code that was written ends where it should
 pub behind : {code : List Entry} {end start : ℕ} {o o₁ : List ℕ} → Emitted code end o o₁ start → end - start ≡ length code
@@ -457,12 +419,15 @@ module _ (b : List ℕ) where
       → Three (bodyCode b i s) (rulesCode b (i + 1) (s - 1)) (conclude k ∷ []) (obligationsCode b (i + 1) (s - 1))
   body-policy i s k m e = record { joined = rw (body-parts i s k e .joined, no-kind b i 1 m) refl }
 
-  pub tree-parts : (i s up n k j : ℕ) → k ≡ length (bodyCode b i s) + suc n
+  pub within-parts : (i s up n k j : ℕ) → k ≡ length (bodyCode b i s) + suc n
       → j ≡ length (codeApplies (isOnly (overPolicies (policiesBy up))) k) + length (bodyCode b i s)
-      → Five (treeCode b i s up n) (enter (algorithmAt b i) ∷ []) (targetCode b (i + 1) (s - 1) j)
-      (codeApplies (isOnly (overPolicies (policiesBy up))) k) (bodyCode b i s) (leave n ∷ [])
-  unfolding treeCode codeTree treeAt codeShell bodyCode targetCode treesCode rulesCode
-  tree-parts i s up n k j e f = record { joined = rw (f, e) (go (isKind b i 1)) }
+      → Three (withinCode b i s up n) (targetCode b (i + 1) (s - 1) j) (codeApplies (isOnly (overPolicies (policiesBy up))) k) (bodyCode b i s)
+  unfolding withinCode codeWithin targetCode
+  within-parts i s up n k j e f = record { joined = rw (f, e) refl }
+
+  pub tree-parts : (i s up n : ℕ) → Three (treeCode b i s up n) (enter (algorithmAt b i) ∷ []) (withinCode b i s up n) (leave n ∷ [])
+  unfolding treeCode codeTree treeAt codeShell withinCode bodyCode treesCode rulesCode
+  tree-parts i s up n = record { joined = go (isKind b i 1) }
     where
       go : (x : Bool)
           → codeTree (overPolicies (policiesBy up)) (if x (set (policiesBy (choiceAt b i)) (targetIn b (below b i s)) (treesIn b (below b i s)) (obligationsIn b (below b i s))) (policy (rulesBy (choiceAt b i)) (targetIn b (below b i s)) (rulesIn b (below b i s)) (obligationsIn b (below b i s)))) n
@@ -535,17 +500,13 @@ module _ {end start : ℕ} {o o₁ : List ℕ} where
   unfolding wordsOf
   entered a e f = entry (enter a) (rw e refl) refl f
 
-  pub shifted-by : Wrote (11 ∷ []) end o o₁ start → Emitted (shift ∷ []) end o o₁ start
-  unfolding wordsOf
-  shifted-by f = entry shift refl refl f
-
-  pub finished : Wrote (12 ∷ []) end o o₁ start → Emitted (finish ∷ []) end o o₁ start
+  pub finished : Wrote (11 ∷ []) end o o₁ start → Emitted (finish ∷ []) end o o₁ start
   unfolding wordsOf
   finished f = entry finish refl refl f
 
-  pub begun : (c : ℕ) → Wrote ((0 + 16 * c) ∷ []) end o o₁ start → Emitted (begin c ∷ []) end o o₁ start
+  pub begun : (a : Algorithm) (c : ℕ) {n : ℕ} → n ≡ algorithmCode a → Wrote ((0 + 16 * (n + 8 * c)) ∷ []) end o o₁ start → Emitted (begin a c ∷ []) end o o₁ start
   unfolding wordsOf
-  begun c f = let e : 16 * c ≡ 0 + 16 * c = omega arith in entry (begin c) (ap (λ (n : ℕ). n ∷ []) e) refl f
+  begun a c {n} e f = let g : 16 * (algorithmCode a + 8 * c) ≡ 0 + 16 * (n + 8 * c) = omega (arith, e) in entry (begin a c) (ap (λ (k : ℕ). k ∷ []) g) refl f
 
 -- a comparison and a match
 pub compared : (n : ℕ) {t u : Test} {w end mid start : ℕ} {o o₁ o₂ : List ℕ} → t ≡ u → w ≡ 2 + 16 * (testWord t + 16 * (t .key + 4294967296 * n))
@@ -658,18 +619,11 @@ module _ (b : List ℕ) (i left : ℕ) (e : Effect) {s : ℕ} (h : left ≡ 0 �
   due-other false k m n g = rw (forest-more b i left h f, no-kind b i 8 k) g
 
 -- the programme
-pub shifts-none : (n : ℕ) → n ≡ 0 → replicate n shift ≡ []
-shifts-none n e = rw e refl
+pub ends-one : (left : ℕ) → left < 3 → replicate (suc ((left - 1) / 2)) finish ≡ finish ∷ []
+ends-one left h = let e : (left - 1) / 2 ≡ 0 = omega (arith, h) in rw e refl
 
-pub shifts-more : (n : ℕ) → (n ≡ 0 → ⊥) → Splits (replicate n shift) (shift ∷ []) (replicate (n - 1) shift)
-shifts-more zero h = absurd (h refl)
-shifts-more (suc n) h = let e : suc n - 1 ≡ n = omega arith in record { joined = rw e refl }
-
-pub shifts-fit : (n end : ℕ) → n ≤ end → length (replicate n shift) ≤ end
-shifts-fit n end h = let l = length-replicate n shift in omega (arith, l, h)
-
-pub shifts-room : (n end : ℕ) → length (replicate n shift) ≤ end → n ≤ end
-shifts-room n end h = let l = length-replicate n shift in omega (arith, l, h)
+pub ends-more : (left : ℕ) → 3 ≤ left → Splits (replicate (suc ((left - 1) / 2)) finish) (finish ∷ []) (replicate (suc ((left - 2 - 1) / 2)) finish)
+ends-more left h = let e : (left - 1) / 2 ≡ suc ((left - 2 - 1) / 2) = omega (arith, h) in record { joined = rw e refl }
 
 module _ (b : List ℕ) (n : ℕ) (l : length b ≡ n * 16) where
   kids-of : length b / 16 - 1 ≡ n - 1
@@ -689,18 +643,29 @@ module _ (b : List ℕ) (n : ℕ) (l : length b ≡ n * 16) where
   unfolding bookOf
   book-is = rw kids-of refl
 
+  -- the top record stands at record 0
+  top-is : (algorithmOf (bookOf b) ≡ algorithmAt b 0) × (codeTop (bookOf b) ≡ withinCode b 0 n 3 0)
+  unfolding treeAt codeTop withinCode bodyCode treesCode rulesCode
+  top-is = rw book-is (go (isKind b 0 1))
+    where
+      book : Bool → Tree
+      book x = if x (set (policiesBy (choiceAt b 0)) (targetIn b (below b 0 n)) (treesIn b (below b 0 n)) (obligationsIn b (below b 0 n))) (policy (rulesBy (choiceAt b 0)) (targetIn b (below b 0 n)) (rulesIn b (below b 0 n)) (obligationsIn b (below b 0 n)))
+
+      go : (x : Bool)
+          → (algorithmOf (book x) ≡ if x (overPolicies (policiesBy (choiceAt b 0))) (overRules (rulesBy (choiceAt b 0))))
+          × (codeTop (book x)
+          ≡ codeWithin First (targetIn b (below b 0 n))
+          (codeBody (if x (codeTrees (overPolicies (policiesBy (choiceAt b 0))) (treesIn b (below b 0 n))) (codeRules (rulesIn b (below b 0 n)))) (obligationsIn b (below b 0 n))) 0)
+      go true = (refl, refl)
+      go false = (refl, refl)
+
   pub programme-parts : {k p d : ℕ} → k ≡ byteOf b 0 0 → p ≡ dueIn b 1 (n - 1) Permits (eqb k 1) → d ≡ dueIn b 1 (n - 1) Denies (eqb k 1)
-      → Five (translated (bookOf b)) (begin p ∷ []) (treeCode b 0 n 3 0) (conclude 0 ∷ []) (replicate ((d + 1) / 2) shift) (finish ∷ [])
-  unfolding translated programme codeBody codeObligations codeTree treeCode
+      → Three (translated (bookOf b)) (begin (algorithmAt b 0) p ∷ []) (withinCode b 0 n 3 0) (replicate (suc ((d - 1) / 2)) finish)
+  unfolding translated programme
   programme-parts {k} {p} {d} e f g =
       let f₁ : p ≡ dueIn b 1 (n - 1) Permits (isKind b 0 1) = rw e at f in
       let g₁ : d ≡ dueIn b 1 (n - 1) Denies (isKind b 0 1) = rw e at g in
-      record { joined = rw (due-whole Permits, due-whole Denies, ← f₁, ← g₁) (go (bookOf b) book-is) }
-    where
-      go : (x : Tree) → x ≡ treeAt b 0 (below b 0 n) (treesIn b (below b 0 n))
-          → begin p ∷ ((codeTree First x 0 ++ []) ++ (conclude 0 ∷ [])) ++ (replicate ((d + 1) / 2) shift ++ (finish ∷ []))
-          ≡ begin p ∷ codeTree First (treeAt b 0 (below b 0 n) (treesIn b (below b 0 n))) 0 ++ (conclude 0 ∷ (replicate ((d + 1) / 2) shift ++ (finish ∷ [])))
-      go x e = rw (← e, append-nil (codeTree First x 0), append-assoc (codeTree First x 0) (conclude 0 ∷ []) (replicate ((d + 1) / 2) shift ++ (finish ∷ []))) refl
+      record { joined = rw (due-whole Permits, due-whole Denies, ← f₁, ← g₁, top-is .0, top-is .1) refl }
 
   pub programme-short : 0 < n → length (translated (bookOf b)) ≤ 8 * n + 8
   programme-short h =

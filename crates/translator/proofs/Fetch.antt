@@ -18,7 +18,7 @@ use Rattle.meaning.specs.declared.Effect.{Effect}
 use Rattle.meaning.specs.declared.Effect.the-variants.{Permits, Denies}
 use Rattle.meaning.specs.declared.Algorithm.{Algorithm}
 use Rattle.meaning.specs.declared.Algorithm.the-variants.{RulesDeny, RulesPermit, First, PoliciesDeny, PoliciesPermit, OnlyOne}
-use Rattle.programme.specs.Entry.{Entry, begin, match, further, opens, compare, close, rule, enter, applies, conclude, oblige, leave, shift, finish, reach, fits, lawful}
+use Rattle.programme.specs.Entry.{Entry, begin, match, further, opens, compare, close, rule, enter, applies, conclude, oblige, leave, finish, reach, fits, lawful}
 use Rattle.programme.specs.declared.Op.{Op}
 use Rattle.programme.specs.declared.Op.the-variants.{All, Any, Not}
 use Rattle.programme.specs.Layout.{bitOf, functionCode, effectCode, effectBy, opCode, opBy, algorithmCode, algorithmBy, testOf, testWord, matchBy, compareBy, entryBy, entryOf, fetch, wordsOf}
@@ -85,6 +85,14 @@ algorithm-back First = refl
 algorithm-back PoliciesDeny = refl
 algorithm-back PoliciesPermit = refl
 algorithm-back OnlyOne = refl
+
+algorithm-small : (a : Algorithm) → algorithmCode a < 8
+algorithm-small RulesDeny = omega arith
+algorithm-small RulesPermit = omega arith
+algorithm-small First = omega arith
+algorithm-small PoliciesDeny = omega arith
+algorithm-small PoliciesPermit = omega arith
+algorithm-small OnlyOne = omega arith
 
 -- an operation's number and what is behind it
 op-of : (k n : ℕ) → k < 16 → (k + 16 * n) % 16 ≡ k
@@ -191,7 +199,13 @@ by-op k n literal ways h = rw (op-of k n h, behind k n h) refl
 
 read-back : (e : Entry) (ns : List ℕ) → isFurther e ≡ false → Holds Key Short e → Near e → readAt (wordsOf e ++ ns) ≡ e
 unfolding wordsOf entryBy
-read-back (begin c) ns h g l = let z : 16 * c ≡ 0 + 16 * c = omega arith in rw (z, by-op 0 c (getD ns 0 0) (getD ns 1 0) (omega arith)) refl
+read-back (begin al c) ns h g l =
+    let k : ℕ = algorithmCode al + 8 * c in
+    let z : 16 * k ≡ 0 + 16 * k = omega arith in
+    let s = algorithm-small al in
+    let p : k % 8 ≡ algorithmCode al = omega (arith, s) in
+    let q : k / 8 ≡ c = omega (arith, s) in
+    rw (z, by-op 0 k (getD ns 0 0) (getD ns 1 0) (omega arith), p, q, algorithm-back al) refl
 read-back (match t m c s i j x) ns h g l =
     by-op 1 (testWord t + 16 * (bitOf m + 2 * (bitOf c + 2 * (bitOf s + 2 * (t .key + 4294967296 * i))))) (t .literal) (j + 8192 * x) (omega arith)
     ∙ match-back t m c s i j x g (omega (arith, l))
@@ -210,8 +224,7 @@ read-back (oblige e n) ns h g l =
     by-op 9 (effectCode e + 2 * n) (getD ns 0 0) (getD ns 1 0) (omega arith)
     ∙ rw (low (effectCode e) n 0 (effect-small e), high (effectCode e) n (effect-small e), effect-back e) refl
 read-back (leave n) ns h g l = by-op 10 n (getD ns 0 0) (getD ns 1 0) (omega arith)
-read-back shift ns h g l = by-op 11 0 (getD ns 0 0) (getD ns 1 0) (omega arith)
-read-back finish ns h g l = by-op 12 0 (getD ns 0 0) (getD ns 1 0) (omega arith)
+read-back finish ns h g l = by-op 11 0 (getD ns 0 0) (getD ns 1 0) (omega arith)
 
 fetch-drop : (p : List ℕ) (i : ℕ) → fetch p i ≡ readAt (drop i p)
 unfolding fetch
@@ -220,7 +233,7 @@ fetch-drop p i =
     rw (getD-drop i p 0 0, getD-drop i p 1 0, getD-drop i p 2 0, z) refl
 
 fits-held : (e : Entry) → isFurther e ≡ false → Holds Key Short e → fits e ≡ true
-fits-held (begin c) h g = le-leb c 1000 g
+fits-held (begin al c) h g = le-leb c 1000 g
 fits-held (match t m c s i j x) h g = refl
 fits-held further h g = sym h
 fits-held (opens op) h g = refl
@@ -232,7 +245,6 @@ fits-held (applies n) h g = refl
 fits-held (conclude n) h g = refl
 fits-held (oblige e n) h g = lt-ltb n 65536 g
 fits-held (leave n) h g = refl
-fits-held shift h g = refl
 fits-held finish h g = refl
 
 -- a translated tree's programme, in numbers: each operation is read back where it stands, and is lawful there

@@ -15,10 +15,10 @@ use Rattle.meaning.specs.declared.Effect.the-variants.{Permits, Denies}
 use Rattle.meaning.specs.declared.Algorithm.{Algorithm}
 use Rattle.meaning.specs.declared.Algorithm.the-variants.{First}
 use Rattle.algorithm.specs.Fold.{isOnly}
-use Rattle.programme.specs.Entry.{Entry, begin, match, further, opens, compare, close, rule, enter, applies, conclude, oblige, leave, shift, finish, extra, reach}
+use Rattle.programme.specs.Entry.{Entry, begin, match, further, opens, compare, close, rule, enter, applies, conclude, oblige, leave, finish, extra, reach}
 use Rattle.programme.specs.declared.Op.{Op}
 use Rattle.programme.specs.declared.Op.the-variants.{All, Any, Not}
-use Rattle.translator.specs.Code.{codeConjunction, codeSection, codeTarget, codeCondition, codeConditions, codeWhen, codeRule, codeRules, codeObligations, codeApplies, codeBody, codeShell, codeTree, codeTrees, owns, obligations, obligationsAll, programme, translated, inNumbers}
+use Rattle.translator.specs.Code.{codeConjunction, codeSection, codeTarget, codeCondition, codeConditions, codeWhen, codeRule, codeRules, codeObligations, codeApplies, codeBody, codeWithin, codeShell, codeTree, codeTrees, codeTop, owns, obligations, obligationsAll, programme, translated, inNumbers}
 
 -- no entry of es leads further than k entries behind es
 unfoldable pub Inside : ℕ → List Entry → Type 0
@@ -96,19 +96,21 @@ unfolding Inside
 in-applies true n k l = (omega (arith, l), tt)
 in-applies false n k l = tt
 
+-- an entry that leaves out a policy or set leaves out what leaves it too
+in-within : (up : Algorithm) (t : Target) (kids : List Entry) (os : List Obligation) (n k : ℕ) → suc n ≤ k → ((m : ℕ) → Inside m kids)
+    → Inside k (codeWithin up t (codeBody kids os) n)
+unfolding codeWithin
+in-within up t kids os n k b h =
+    let bd : List Entry = codeBody kids os in
+    let ap : List Entry = codeApplies (isOnly up) (length bd + suc n) in
+    let i = length-append ap bd in
+    in-both k (codeTarget t (length ap + length bd)) (ap ++ bd) (in-target t (length ap + length bd) (length (ap ++ bd) + k) (omega (arith, i)))
+    (in-both k ap bd (in-applies (isOnly up) (length bd + suc n) (length bd + k) (omega (arith, b))) (in-body kids os k h))
+
 in-shell : (up a : Algorithm) (t : Target) (kids : List Entry) (os : List Obligation) (n k : ℕ) → n ≤ k → ((m : ℕ) → Inside m kids) → Inside k (codeShell up a t kids os n)
 unfolding codeShell Inside
 in-shell up a t kids os n k b h =
-    let bd : List Entry = codeBody kids os in
-    let ap : List Entry = codeApplies (isOnly up) (length bd + suc n) in
-    let i = length-append ap (bd ++ (leave n ∷ [])) in
-    let j = length-append bd (leave n ∷ []) in (
-      omega arith,
-      in-both k (codeTarget t (length ap + length bd)) (ap ++ (bd ++ (leave n ∷ [])))
-          (in-target t (length ap + length bd) (length (ap ++ (bd ++ (leave n ∷ []))) + k) (omega (arith, i, j)))
-          (in-both k ap (bd ++ (leave n ∷ [])) (in-applies (isOnly up) (length bd + suc n) (length (bd ++ (leave n ∷ [])) + k) (omega (arith, j, b)))
-          (in-both k bd (leave n ∷ []) (in-body kids os (1 + k) h) (omega (arith, b), tt))),
-    )
+    (omega arith, in-both k (codeWithin up t (codeBody kids os) n) (leave n ∷ []) (in-within up t kids os n (1 + k) (omega (arith, b)) h) (omega (arith, b), tt))
 
 mutual
   unfolding codeTree Inside
@@ -121,18 +123,21 @@ mutual
   in-trees noTree up k = tt
   in-trees (tree x ns) up k = in-both k (codeTree up x (length (codeTrees up ns))) (codeTrees up ns) (in-tree x up (length (codeTrees up ns)) (length (codeTrees up ns) + k) (omega arith)) (in-trees ns up k)
 
-in-shifts : (n : ℕ) → Inside 0 (replicate n shift ++ (finish ∷ []))
+in-ends : (n : ℕ) → Inside 0 (replicate n finish)
 unfolding Inside
-in-shifts zero = (omega arith, tt)
-in-shifts (suc n) = (omega arith, in-shifts n)
+in-ends zero = tt
+in-ends (suc n) = (omega arith, in-ends n)
+
+-- an end stands behind the top record
+in-top : (x : Tree) (k : ℕ) → 1 ≤ k → Inside k (codeTop x)
+unfolding codeTop
+in-top (policy a t rs os) k b = in-within First t (codeRules rs) os 0 k b (λ m. in-rules rs m)
+in-top (set a t ns os) k b = in-within First t (codeTrees (overPolicies a) ns) os 0 k b (λ m. in-trees ns (overPolicies a) m)
 
 pub stays-inside : (x : Tree) (c n : ℕ) → Inside 0 (programme x c n)
 unfolding programme Inside
 stays-inside x c n =
-    let tail : List Entry = replicate n shift ++ (finish ∷ []) in (
-      omega arith,
-      in-both 0 (codeBody (codeTrees First (tree x noTree)) []) tail (in-body (codeTrees First (tree x noTree)) [] (length tail + 0) (λ m. in-trees (tree x noTree) First m)) (in-shifts n),
-    )
+    (omega arith, in-both 0 (codeTop x) (replicate (suc n) finish) (in-top x (length (replicate (suc n) finish) + 0) (omega arith)) (in-ends (suc n)))
 
 -- at each place
 pub inside-at : (k : ℕ) (es : List Entry) (i : ℕ) → Inside k es → i < length es → i + suc (reach (getD es i further)) ≤ length es + k

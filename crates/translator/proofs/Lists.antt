@@ -19,7 +19,7 @@ use Rattle.programme.specs.declared.Head.{Head}
 use Rattle.programme.specs.declared.Next.{Next}
 use Rattle.programme.specs.declared.Placing.{Placing}
 use Rattle.programme.specs.declared.Placing.the-variants.{Rest, AddPermit, AddDeny, FallPermit, FallDeny, FallBoth, Cut, Down}
-use Rattle.programme.specs.Entry.{Entry, begin, match, further, opens, compare, close, rule, enter, applies, conclude, oblige, leave, shift, finish, extra}
+use Rattle.programme.specs.Entry.{Entry, begin, match, further, opens, compare, close, rule, enter, applies, conclude, oblige, leave, finish, extra}
 use Rattle.programme.specs.Core.{Changing, keep, push, swap, below, back, Out, past, put, core}
 use Rattle.programme.specs.Machine.{roomF, roomL}
 use Rattle.translator.specs.Flat.{idle, ground}
@@ -89,7 +89,7 @@ headOf nest permits denies r a o t =
 
 -- a second or third entry is never met as a first; the first entry and the last ones are no business of the tree's code
 abbrev pub halts : Entry → Bool
-halts (begin c) = true
+halts (begin al c) = true
 halts (match t m c l i j x) = false
 halts further = true
 halts (opens op) = false
@@ -101,7 +101,6 @@ halts (applies n) = false
 halts (conclude n) = false
 halts (oblige e n) = false
 halts (leave n) = false
-halts shift = true
 halts finish = true
 
 unfoldable pub step : Bags → State → State

@@ -17,8 +17,8 @@ use Rattle.programme.specs.declared.Head.{Head}
 use Rattle.programme.specs.declared.State.{State}
 use Rattle.programme.specs.declared.Frame.{Frame}
 use Rattle.programme.specs.declared.Level.{Level}
-use Rattle.programme.specs.Entry.{Entry, begin, match, further, opens, compare, close, rule, enter, applies, conclude, oblige, leave, shift, finish, lawful}
-use Rattle.programme.specs.Core.{Changing, keep, push, swap, below, back, Out, tell, closed, concluded, noted, shifted, core}
+use Rattle.programme.specs.Entry.{Entry, begin, match, further, opens, compare, close, rule, enter, applies, conclude, oblige, leave, finish, lawful}
+use Rattle.programme.specs.Core.{Changing, keep, push, swap, below, back, Out, tell, closed, concluded, noted, finished, core}
 use Rattle.programme.specs.Machine.{roomF, roomL, stackAfter}
 use Rattle.programme.specs.Layout.{algorithmBy, accBy, rankBy, opBy, truthBy, levelOf, levelWord, frameOf, frameWord, unpackOf, packOf, allowed, fetch}
 use Rattle.programme.specs.Step.{inWords, headAfter, after, seen, mayStep, stepOf}
@@ -44,7 +44,7 @@ frame-small n = (omega arith, omega arith)
 
 core-small : (e : Entry) (g : Bags) (long : ℕ) (h : Head) (l m : Level) (f b : Frame) → (h .permits < 1024) × (h .denies < 1024) → SmallF f → SmallF b → Smalls (core g long h e l m f b .frames)
 unfolding core Smalls
-core-small (begin c) g long h l m f b s u v = tt
+core-small (begin al c) g long h l m f b s u v = (omega arith, omega arith)
 core-small (match t k c w i j x) g long h l m f b s u v = tt
 core-small further g long h l m f b s u v = tt
 core-small (opens op) g long h l m f b s u v = tt
@@ -78,12 +78,11 @@ core-small (conclude n) g long h l m f b s u v = go (result (f .alg) (f .acc))
     go Indeterminate = tt
 core-small (oblige e n) g long h l m f b s u v = tt
 core-small (leave n) g long h l m f b s u v = v
-core-small shift g long h l m f b s u v = go (both (is (h .reg) Deny) (ltb (h .permits) (h .denies)))
+core-small finish g long h l m f b s u v = go (both (is (h .reg) Deny) (ltb (h .permits) (h .denies)))
   where
-    go : (x : Bool) → Smalls (shifted x long h .frames)
+    go : (x : Bool) → Smalls (finished x h .frames)
     go true = tt
     go false = tt
-core-small finish g long h l m f b s u v = tt
 
 -- a store, seen through a reading of the numbers
 map-set : {A : Type 0} (f : ℕ → A) (xs : List ℕ) (i n : ℕ) (x : A) → f n ≡ x → map f (set xs i n) ≡ set (map f xs) i x

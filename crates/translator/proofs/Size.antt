@@ -13,10 +13,10 @@ use Rattle.meaning.specs.declared.Effect.the-variants.{Permits, Denies}
 use Rattle.meaning.specs.declared.Algorithm.{Algorithm}
 use Rattle.meaning.specs.declared.Algorithm.the-variants.{First}
 use Rattle.algorithm.specs.Fold.{isOnly}
-use Rattle.programme.specs.Entry.{Entry, begin, match, further, opens, compare, close, rule, enter, applies, conclude, oblige, leave, shift, finish, extra, reach}
+use Rattle.programme.specs.Entry.{Entry, begin, match, further, opens, compare, close, rule, enter, applies, conclude, oblige, leave, finish, extra, reach}
 use Rattle.programme.specs.declared.Op.{Op}
 use Rattle.programme.specs.declared.Op.the-variants.{All, Any, Not}
-use Rattle.translator.specs.Code.{codeConjunction, codeSection, codeTarget, codeCondition, codeConditions, codeWhen, codeRule, codeRules, codeObligations, codeApplies, codeBody, codeShell, codeTree, codeTrees, owns, obligations, obligationsAll, programme, translated, inNumbers}
+use Rattle.translator.specs.Code.{codeConjunction, codeSection, codeTarget, codeCondition, codeConditions, codeWhen, codeRule, codeRules, codeObligations, codeApplies, codeBody, codeWithin, codeShell, codeTree, codeTrees, owns, obligations, obligationsAll, codeTop, programme, translated, inNumbers}
 use Rattle.translator.specs.Flat.{weigh, weighE}
 
 -- a measure of entries that adds up: their number, or the obligations of an effect
@@ -146,18 +146,25 @@ module _ (e : Effect) where
       let i = w-duties os in
       omega (arith, h, i)
 
-  w-shell : (up a : Algorithm) (t : Target) (kids : List Entry) (os : List Obligation) (n : ℕ) → weigh (weighE e) (codeShell up a t kids os n) ≡ weigh (weighE e) kids + owns e os
-  unfolding codeShell weigh
-  w-shell up a t kids os n =
+  w-within : (up : Algorithm) (t : Target) (kids : List Entry) (os : List Obligation) (n : ℕ)
+      → weigh (weighE e) (codeWithin up t (codeBody kids os) n) ≡ weigh (weighE e) kids + owns e os
+  unfolding codeWithin
+  w-within up t kids os n =
       let bd : List Entry = codeBody kids os in
       let ap : List Entry = codeApplies (isOnly up) (length bd + suc n) in
-      let h = sum (weighE e) (codeTarget t (length ap + length bd)) (ap ++ (bd ++ (leave n ∷ []))) in
-      let i = sum (weighE e) ap (bd ++ (leave n ∷ [])) in
-      let j = sum (weighE e) bd (leave n ∷ []) in
+      let h = sum (weighE e) (codeTarget t (length ap + length bd)) (ap ++ bd) in
+      let i = sum (weighE e) ap bd in
       let x = w-target t (length ap + length bd) in
       let y = w-applies (isOnly up) (length bd + suc n) in
       let z = w-body kids os in
-      omega (arith, h, i, j, x, y, z)
+      omega (arith, h, i, x, y, z)
+
+  w-shell : (up a : Algorithm) (t : Target) (kids : List Entry) (os : List Obligation) (n : ℕ) → weigh (weighE e) (codeShell up a t kids os n) ≡ weigh (weighE e) kids + owns e os
+  unfolding codeShell weigh
+  w-shell up a t kids os n =
+      let h = sum (weighE e) (codeWithin up t (codeBody kids os) n) (leave n ∷ []) in
+      let i = w-within up t kids os n in
+      omega (arith, h, i)
 
   mutual
     unfolding weigh codeTree obligations
@@ -174,19 +181,23 @@ module _ (e : Effect) where
         let j = w-trees ns up in
         omega (arith, h, i, j)
 
-  w-shifts : (n : ℕ) → weigh (weighE e) (replicate n shift ++ (finish ∷ [])) ≡ 0
+  w-ends : (n : ℕ) → weigh (weighE e) (replicate n finish) ≡ 0
   unfolding weigh
-  w-shifts zero = refl
-  w-shifts (suc n) = let h = w-shifts n in omega (arith, h)
+  w-ends zero = refl
+  w-ends (suc n) = let h = w-ends n in omega (arith, h)
+
+  w-top : (x : Tree) → weigh (weighE e) (codeTop x) ≡ obligations e x
+  unfolding codeTop obligations
+  w-top (policy a t rs os) = let h = w-within First t (codeRules rs) os 0 in let i = w-rules rs in omega (arith, h, i)
+  w-top (set a t ns os) = let h = w-within First t (codeTrees (overPolicies a) ns) os 0 in let i = w-trees ns (overPolicies a) in omega (arith, h, i)
 
   pub w-programme : (x : Tree) (c n : ℕ) → weigh (weighE e) (programme x c n) ≡ obligations e x
-  unfolding programme owns obligations weigh
+  unfolding programme weigh
   w-programme x c n =
-      let h = sum (weighE e) (codeBody (codeTrees First (tree x noTree)) []) (replicate n shift ++ (finish ∷ [])) in
-      let i = w-body (codeTrees First (tree x noTree)) [] in
-      let j = w-trees (tree x noTree) First in
-      let k = w-shifts n in
-      omega (arith, h, i, j, k)
+      let h = sum (weighE e) (codeTop x) (replicate (suc n) finish) in
+      let i = w-top x in
+      let k = w-ends (suc n) in
+      omega (arith, h, i, k)
 
 -- lengths
 l-conj : (j : Conjunction) (c l : Bool) (n x : ℕ) → length (codeConjunction j c l n x) ≡ 3 * recsM j
@@ -260,19 +271,26 @@ l-applies : (b : Bool) (n : ℕ) → length (codeApplies b n) ≤ 1
 l-applies true n = omega arith
 l-applies false n = omega arith
 
-l-shell : (up a : Algorithm) (t : Target) (kids : List Entry) (os : List Obligation) (n : ℕ) → length (codeShell up a t kids os n) ≤ 4 + 3 * recsTarget t + length kids + length os
-unfolding codeShell codeBody
-l-shell up a t kids os n =
+l-within : (up : Algorithm) (t : Target) (kids : List Entry) (os : List Obligation) (n : ℕ)
+    → length (codeWithin up t (codeBody kids os) n) ≤ 2 + 3 * recsTarget t + length kids + length os
+unfolding codeWithin codeBody
+l-within up t kids os n =
     let bd : List Entry = codeBody kids os in
     let ap : List Entry = codeApplies (isOnly up) (length bd + suc n) in
-    let h = length-append (codeTarget t (length ap + length bd)) (ap ++ (bd ++ (leave n ∷ []))) in
-    let i = length-append ap (bd ++ (leave n ∷ [])) in
-    let j = length-append bd (leave n ∷ []) in
+    let h = length-append (codeTarget t (length ap + length bd)) (ap ++ bd) in
+    let i = length-append ap bd in
     let k = length-append kids (conclude (length (codeObligations os)) ∷ codeObligations os) in
     let x = l-target t (length ap + length bd) in
     let y = l-applies (isOnly up) (length bd + suc n) in
     let z = l-duties os in
-    omega (arith, h, i, j, k, x, y, z)
+    omega (arith, h, i, k, x, y, z)
+
+l-shell : (up a : Algorithm) (t : Target) (kids : List Entry) (os : List Obligation) (n : ℕ) → length (codeShell up a t kids os n) ≤ 4 + 3 * recsTarget t + length kids + length os
+unfolding codeShell
+l-shell up a t kids os n =
+    let h = length-append (codeWithin up t (codeBody kids os) n) (leave n ∷ []) in
+    let i = l-within up t kids os n in
+    omega (arith, h, i)
 
 owns-le : (e : Effect) (os : List Obligation) → owns e os ≤ length os
 unfolding owns
@@ -301,14 +319,19 @@ mutual
       let j = l-trees ns up e in
       omega (arith, h, i, j)
 
-pub short : (x : Tree) → length (translated x) ≤ 4 * recs x + 3
-unfolding translated programme codeBody codeObligations recs obligations
+-- the top record is entered by the first entry and left by none, and so has room for that and for an end
+l-top : (x : Tree) (e : Effect) → 2 + length (codeTop x) + obligations e x ≤ 4 * recs x
+unfolding codeTop recs obligations
+l-top (policy a t rs os) e =
+    let h = l-within First t (codeRules rs) os 0 in let i = l-rules rs in let j = owns-le e os in omega (arith, h, i, j)
+l-top (set a t ns os) e =
+    let h = l-within First t (codeTrees (overPolicies a) ns) os 0 in let i = l-trees ns (overPolicies a) e in let j = owns-le e os in omega (arith, h, i, j)
+
+pub short : (x : Tree) → length (translated x) ≤ 4 * recs x
+unfolding translated programme
 short x =
-    let n : ℕ = (obligations Denies x + 1) / 2 in
-    let kids : List Entry = codeTrees First (tree x noTree) in
-    let h = length-append (codeBody kids []) (replicate n shift ++ (finish ∷ [])) in
-    let i = length-append kids (conclude 0 ∷ []) in
-    let j = length-append (replicate n shift) (finish ∷ []) in
-    let k = length-replicate n shift in
-    let l = l-trees (tree x noTree) First Denies in
-    omega (arith, h, i, j, k, l)
+    let n : ℕ = suc ((obligations Denies x - 1) / 2) in
+    let h = length-append (codeTop x) (replicate n finish) in
+    let k = length-replicate n finish in
+    let l = l-top x Denies in
+    omega (arith, h, k, l)

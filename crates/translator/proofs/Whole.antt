@@ -2,37 +2,32 @@
 use Prim.Native.Nat.{ℕ, zero, suc, _+_, _-_, _*_, _/_, _≤_, _<_, min}
 use mathlib.Core.Path.{_≡_, refl, sym, subst, ap, _∙_}
 use mathlib.Core.Bool.{Bool, true, false, true≢false}
-use mathlib.Core.List.{List, [], _∷_, _++_, append-nil}
-use lib.Dec.{ltb}
-use lib.ListN.{length, drop, take, getD, set, replicate, length-drop, length-set, length-append, length-replicate}
+use mathlib.Core.List.{List, [], _∷_}
+use lib.Dec.{leb, ltb}
+use lib.ListN.{length, drop, take, getD, set, replicate, length-drop, length-set, length-replicate}
 use lib.Seq.{drop-drop, getD-drop, getD-take, getD-set-same, getD-set-other, ext-getD, length-take-le}
 use native.Mathlib.Omega.{arith}
 use native.Mathlib.Nat.{add-zero, mul-suc}
-use borrow.Author.Tests.{lt-ltb, ltb-true, ltb-false}
+use borrow.Author.Tests.{lt-ltb, ltb-true, ltb-false, lt-leb, leb-true, leb-false}
 use Rattle.record.specs.Choose.{if, both}
-use Rattle.meaning.specs.Policy.{Tree, noTree, tree}
-use Rattle.meaning.specs.Meaning.{Bags, Child, said, owed, is, combine, handed, ownOf, binding, childOf, decides, obliges}
+use Rattle.meaning.specs.Policy.{Tree}
+use Rattle.meaning.specs.Meaning.{Bags, is, binding, decides, obliges}
 use Rattle.meaning.specs.declared.Truth.the-variants.{True, False}
 use Rattle.meaning.specs.declared.Effect.the-variants.{Permits, Denies}
 use Rattle.meaning.specs.declared.Decision.{Decision}
 use Rattle.meaning.specs.declared.Decision.the-variants.{Permit, Deny, NotApplicable, Indeterminate}
-use Rattle.meaning.specs.declared.Algorithm.the-variants.{First}
-use Rattle.algorithm.specs.declared.Rank.the-variants.{R0}
-use Rattle.algorithm.specs.declared.Acc.the-variants.{Ranked}
-use Rattle.algorithm.proofs.Walk.{walk}
 use Rattle.programme.specs.declared.Frame.{Frame}
 use Rattle.programme.specs.declared.Head.{Head}
-use Rattle.programme.specs.Entry.{Entry, begin, further, shift, finish}
-use Rattle.programme.specs.Core.{atOnce, shifted, core}
+use Rattle.programme.specs.Entry.{Entry, begin, further, finish}
+use Rattle.programme.specs.Core.{atOnce, finished, core}
 use Rattle.programme.specs.Machine.{roomF, roomL, copies}
 use Rattle.programme.specs.Layout.{unpackOf, packOf, frameOf, levelOf, decisionBy, truthBy, algorithmBy, accBy, rankBy, opBy}
 use Rattle.programme.specs.Step.{headAfter, countBy, freshOf}
-use Rattle.translator.specs.Code.{codeTrees, codeBody, obligations, programme, translated}
+use Rattle.translator.specs.Code.{algorithmOf, obligations, programme, translated}
 use Rattle.translator.specs.Flat.{Flat, idle, ground, flatAfter, sees, flatStep, flatRun, flatOf, Codes, weigh}
-use Rattle.translator.specs.Nesting.{nestTree, nestTrees, deepTree}
+use Rattle.translator.specs.Nesting.{nestTree, deepTree}
 use Rattle.translator.proofs.Lists.{State, at, still}
-use Rattle.translator.proofs.Goes.{Goes}
-use Rattle.translator.proofs.Nodes.{fr, left, body, nothing, sim-trees, quiet}
+use Rattle.translator.proofs.Nodes.{sim-top, quiet}
 use Rattle.translator.proofs.Small.{Small, still-small}
 use Rattle.translator.proofs.Arrays.{stackOf, Going, Runs, there, one-step, runs-on, ran, on-the-way, Fits, Reached, carry}
 use Rattle.translator.proofs.Size.{w-programme}
@@ -71,7 +66,6 @@ record Ended (g : Bags) (entry : ℕ → Entry) (es : List Entry) (orig : List �
   steps : ℕ
   ends : Flat
   runs : Runs g entry es steps b ends
-  begun : 0 < steps
   few : steps ≤ n
   over : ends .head .over ≡ true
   small : Small ends
@@ -86,33 +80,21 @@ entry-at es i e ys h = let z : i + 0 ≡ i = omega arith in rw z at (sym (getD-d
 drop-next : (es : List Entry) (i : ℕ) (e : Entry) (ys : List Entry) → drop i es ≡ e ∷ ys → drop (i + 1) es ≡ ys
 drop-next es i e ys h = sym (drop-drop 1 i es) ∙ ap (λ (xs : List Entry). drop 1 xs) h
 
-drop-shifts : (m : ℕ) (ys : List Entry) → drop m (replicate m shift ++ ys) ≡ ys
-drop-shifts zero ys = refl
-drop-shifts (suc m) ys = drop-shifts m ys
-
--- the last step
-ends-now : (g : Bags) (entry : ℕ → Entry) (es : List Entry) → Codes entry es → (orig : List ℕ) (n : ℕ) (b : Flat) → b .head .over ≡ false → Small b
-    → b .head .at < length es → drop (b .head .at) es ≡ finish ∷ []
-    → Moving (b .head .cut) orig (if (is (b .head .reg) Deny) (b .head .denies) 0) (b .places) → Ended g entry es orig (suc n) b
-unfolding flatStep Codes headAfter core
-ends-now g entry es y orig n b f s l h m = record {
-  steps = 1;
-  ends = flatAfter finish (sees g (length es) finish b) b;
-  runs =
-      one-step (record { running = f; inside = l; starts = rw e refl; small = s })
-      (rw (f, lt-ltb (b .head .at) (length es) l, y (b .head .at) l (rw e refl), e) refl) there;
-  begun = omega arith;
+-- the run is over
+is-over : {g : Bags} {entry : ℕ → Entry} {es : List Entry} {orig : List ℕ} (n : ℕ) (b : Flat) → b .head .over ≡ true → Small b
+    → Moving (b .head .cut) orig (if (is (b .head .reg) Deny) (b .head .denies) 0) (b .places) → Ended g entry es orig n b
+is-over n b o s m = record {
+  steps = 0;
+  ends = b;
+  runs = there;
   few = omega arith;
-  over = refl;
-  small = still-small finish (sees g (length es) finish b) b s (s .permitted) (s .denied);
+  over = o;
+  small = s;
   same-reg = refl;
   same-permits = λ u. refl;
   same-denies = refl;
   moves = m;
 }
-  where
-    e : getD es (b .head .at) further ≡ finish
-    e = entry-at es (b .head .at) finish [] h
 
 -- one step, then the rest
 then-ends : {g : Bags} {entry : ℕ → Entry} {es : List Entry} {orig : List ℕ} {n : ℕ} {b c : Flat} → Going es b → flatStep g entry (length es) b ≡ c
@@ -122,7 +104,6 @@ then-ends h e x y z w r = record {
   steps = suc (r .steps);
   ends = r .ends;
   runs = one-step h e (r .runs);
-  begun = omega arith;
   few = omega (arith, r .few);
   over = r .over;
   small = r .small;
@@ -135,13 +116,13 @@ then-ends h e x y z w r = record {
 enough : (k n p d : ℕ) → d ≤ p + k * suc n → p < d → d ≤ p + min k (d - p) + k * n
 enough k n p d l m = let e : k * suc n ≡ k * n + k = mul-suc k n in omega (arith, e, l, m)
 
--- n entries to bring the obligations down, and the end, are ahead
+-- an end and n more like it are ahead, enough to bring the obligations down
 record Lasting (es : List Entry) (orig : List ℕ) (n : ℕ) (b : Flat) : Type 0 where
   running : b .head .over ≡ false
   small : Small b
   place : b .head .at + suc n ≡ length es
-  tail : drop (b .head .at) es ≡ replicate n shift ++ (finish ∷ [])
-  left-over : is (b .head .reg) Deny ≡ true → (b .head .denies ≤ b .head .permits + atOnce * n) × (b .head .permits ≤ b .head .denies)
+  tail : drop (b .head .at) es ≡ replicate (suc n) finish
+  left-over : is (b .head .reg) Deny ≡ true → (b .head .denies ≤ b .head .permits + atOnce * suc n) × (b .head .permits ≤ b .head .denies)
   within : b .head .denies ≤ length orig
   moved : Moving (b .head .cut) orig (if (is (b .head .reg) Deny) (b .head .permits) 0) (b .places)
 
@@ -150,116 +131,87 @@ all-moved : (x : Bool) (c p d : ℕ) (orig xs : List ℕ) → (x ≡ true → p 
 all-moved true c p d orig xs u m = rw (u refl) at m
 all-moved false c p d orig xs u m = m
 
-sim-tail : (n : ℕ) (g : Bags) (entry : ℕ → Entry) (es : List Entry) → Codes entry es → (orig : List ℕ) (b : Flat) → Lasting es orig n b → Ended g entry es orig (suc n) b
-unfolding flatStep Codes headAfter core
-sim-tail zero g entry es y orig b s =
-    ends-now g entry es y orig 0 b (s .running) (s .small) (omega (arith, s .place)) (s .tail)
-    (all-moved (is (b .head .reg) Deny) (b .head .cut) (b .head .permits) (b .head .denies) orig (b .places)
-    (λ u. let w = s .left-over u in omega (arith, w .0, w .1)) (s .moved))
-sim-tail (suc n) g entry es y orig b s = go (is (b .head .reg) Deny) (ltb (b .head .permits) (b .head .denies)) refl refl (λ c. sim-tail n g entry es y orig c)
-  where
-    i : b .head .at < length es
-    i = omega (arith, s .place)
+-- the first of them
+module _ (g : Bags) (entry : ℕ → Entry) (es : List Entry) (y : Codes entry es) (orig : List ℕ) (n : ℕ) (b : Flat) (s : Lasting es orig n b) where
+  abbrev moving : Bool
+  moving = both (is (b .head .reg) Deny) (ltb (b .head .permits) (b .head .denies))
 
-    here : getD es (b .head .at) further ≡ shift
-    here = entry-at es (b .head .at) shift (replicate n shift ++ (finish ∷ [])) (s .tail)
+  abbrev next-is : Bool → Flat
+  next-is z = flatAfter finish (finished z (b .head)) b
 
-    now : Going es b
-    now = record { running = s .running; inside = i; starts = rw here refl; small = s .small }
+  here : getD es (b .head .at) further ≡ finish
+  here = entry-at es (b .head .at) finish (replicate n finish) (s .tail)
 
-    moving : Bool
-    moving = both (is (b .head .reg) Deny) (ltb (b .head .permits) (b .head .denies))
+  now : Going es b
+  now = record { running = s .running; inside = omega (arith, s .place); starts = rw here refl; small = s .small }
 
-    next-is : Bool → Flat
-    next-is z = flatAfter shift (shifted z (length es) (b .head)) b
+  steps-to : (z : Bool) → moving ≡ z → flatStep g entry (length es) b ≡ next-is z
+  unfolding flatStep Codes core
+  steps-to z e =
+      let i : b .head .at < length es = omega (arith, s .place) in
+      rw (s .running, lt-ltb (b .head .at) (length es) i, y (b .head .at) i (rw here refl), here, e) refl
 
-    steps-to : (z : Bool) → moving ≡ z → flatStep g entry (length es) b ≡ next-is z
-    steps-to z e = rw (s .running, lt-ltb (b .head .at) (length es) i, y (b .head .at) i (rw here refl), here, e) refl
+  stays-small : (z : Bool) → Small (next-is z)
+  stays-small true = still-small finish (finished true (b .head)) b (s .small) (omega (arith, s .small .permitted, s .small .denied)) (s .small .denied)
+  stays-small false = still-small finish (finished false (b .head)) b (s .small) (s .small .permitted) (s .small .denied)
 
-    stays-small : (z : Bool) → Small (next-is z)
-    stays-small true = still-small shift (shifted true (length es) (b .head)) b (s .small) (omega (arith, s .small .permitted, s .small .denied)) (s .small .denied)
-    stays-small false = still-small shift (shifted false (length es) (b .head)) b (s .small) (s .small .permitted) (s .small .denied)
+  steps-on : (z : Bool) → moving ≡ z → Ended g entry es orig n (next-is z) → Ended g entry es orig (suc n) b
+  unfolding headAfter
+  steps-on true e r = then-ends now (steps-to true e) refl (λ a. absurd (true≢false (sym (rw a at e)))) refl refl r
+  steps-on false e r = then-ends now (steps-to false e) refl (λ a. refl) refl refl r
 
-    at-end : next-is false .head .at ≡ b .head .at + suc n
-    at-end = omega (arith, s .place)
+  -- the places when some have come down
+  brought : is (b .head .reg) Deny ≡ true → b .head .permits < b .head .denies
+      → Moving (b .head .cut) orig (b .head .permits + min atOnce (b .head .denies - b .head .permits)) (next-is true .places)
+  brought u d =
+      copied (min atOnce (b .head .denies - b .head .permits)) (b .head .cut) orig (b .head .permits) (b .places) (rw u at (s .moved)) (omega (arith, s .within, d))
 
-    -- the last entry is next
-    ends : moving ≡ false → (is (b .head .reg) Deny ≡ true → b .head .permits ≡ b .head .denies) → Ended g entry es orig (suc (suc n)) b
-    ends e u =
-        then-ends now (steps-to false e) refl (λ a. refl) refl refl
-        (ends-now g entry es y orig n (next-is false) refl (stays-small false) (omega (arith, at-end, s .place))
-        (rw (at-end, ← drop-drop (suc n) (b .head .at) es, s .tail) (drop-shifts (suc n) (finish ∷ [])))
-        (all-moved (is (b .head .reg) Deny) (b .head .cut) (b .head .permits) (b .head .denies) orig (b .places) u (s .moved)))
+  -- it is the last step, but where more are left above than come down at once
+  one-end : (is (b .head .reg) Deny ≡ true → b .head .permits + atOnce < b .head .denies → Ended g entry es orig (suc n) b) → Ended g entry es orig (suc n) b
+  unfolding headAfter
+  one-end more = go (is (b .head .reg) Deny) (ltb (b .head .permits) (b .head .denies)) (leb (b .head .denies) (b .head .permits + atOnce)) refl refl refl
+    where
+      nothing-left : moving ≡ false → (is (b .head .reg) Deny ≡ true → b .head .permits ≡ b .head .denies) → Ended g entry es orig (suc n) b
+      nothing-left e u =
+          steps-on false e
+          (is-over n (next-is false) refl (stays-small false)
+          (all-moved (is (b .head .reg) Deny) (b .head .cut) (b .head .permits) (b .head .denies) orig (b .places) u (s .moved)))
 
-    go : (x z : Bool) → is (b .head .reg) Deny ≡ x → ltb (b .head .permits) (b .head .denies) ≡ z
-        → ((c : Flat) → Lasting es orig n c → Ended g entry es orig (suc n) c) → Ended g entry es orig (suc (suc n)) b
-    go false z u v ih = ends (rw u refl) (λ a. absurd (true≢false (sym a ∙ u)))
-    go true false u v ih =
-        let d : b .head .denies ≤ b .head .permits = ltb-false (b .head .permits) (b .head .denies) v in
-        ends (rw (u, v) refl) (λ a. let w = s .left-over a in omega (arith, d, w .1))
-    go true true u v ih =
-        let e : moving ≡ true = rw (u, v) refl in
-        let d : b .head .permits < b .head .denies = ltb-true (b .head .permits) (b .head .denies) v in
-        then-ends now (steps-to true e) refl (λ a. absurd (true≢false (sym u ∙ a))) refl refl
-        (ih (next-is true)
-        (record {
-          running = refl;
-          small = stays-small true;
-          place = omega (arith, s .place);
-          tail = drop-next es (b .head .at) shift (replicate n shift ++ (finish ∷ [])) (s .tail);
-          left-over = λ a. (enough atOnce n (b .head .permits) (b .head .denies) (s .left-over u .0) d, omega (arith, d));
-          within = s .within;
-          moved =
-              rw u
-              (copied (min atOnce (b .head .denies - b .head .permits)) (b .head .cut) orig (b .head .permits) (b .places) (rw u at (s .moved))
-              (omega (arith, s .within, d)));
-        }))
+      go : (x z w : Bool) → is (b .head .reg) Deny ≡ x → ltb (b .head .permits) (b .head .denies) ≡ z → leb (b .head .denies) (b .head .permits + atOnce) ≡ w
+          → Ended g entry es orig (suc n) b
+      go false z w u v t = nothing-left (rw u refl) (λ a. absurd (true≢false (sym a ∙ u)))
+      go true false w u v t =
+          let d : b .head .denies ≤ b .head .permits = ltb-false (b .head .permits) (b .head .denies) v in
+          nothing-left (rw (u, v) refl) (λ a. let k = s .left-over a in omega (arith, d, k .1))
+      go true true true u v t =
+          let d : b .head .permits < b .head .denies = ltb-true (b .head .permits) (b .head .denies) v in
+          let l : b .head .denies ≤ b .head .permits + atOnce = leb-true (b .head .denies) (b .head .permits + atOnce) t in
+          let e : b .head .permits + min atOnce (b .head .denies - b .head .permits) ≡ b .head .denies = omega (arith, d, l) in
+          steps-on true (rw (u, v) refl) (is-over n (next-is true) t (stays-small true) (rw u (rw e at (brought u d))))
+      go true true false u v t = more u (leb-false (b .head .denies) (b .head .permits + atOnce) t)
 
--- the tree as the one child of a first-applicable set
-alone : (c : Child) → combine First (c ∷ []) ≡ said c
-unfolding combine
-alone c = go (said c)
-  where
-    go : (d : Decision) → if (is d NotApplicable) NotApplicable d ≡ d
-    go Permit = refl
-    go Deny = refl
-    go NotApplicable = refl
-    go Indeterminate = refl
+sim-tail : (n : ℕ) (g : Bags) (entry : ℕ → Entry) (es : List Entry) (y : Codes entry es) (orig : List ℕ) (b : Flat) → Lasting es orig n b → Ended g entry es orig (suc n) b
+unfolding headAfter
+sim-tail zero g entry es y orig b s = one-end g entry es y orig 0 b s (λ u l. let k = s .left-over u in absurd (omega (arith, k .0, l)))
+sim-tail (suc n) g entry es y orig b s =
+    one-end g entry es y orig (suc n) b s
+    (λ u l.
+    let d : b .head .permits < b .head .denies = omega (arith, l) in
+    steps-on g entry es y orig (suc n) b s true (rw (u, lt-ltb (b .head .permits) (b .head .denies) d) refl)
+    (sim-tail n g entry es y orig (next-is g entry es y orig (suc n) b s true)
+    (record {
+      running = lt-leb (b .head .denies) (b .head .permits + atOnce) l;
+      small = stays-small g entry es y orig (suc n) b s true;
+      place = omega (arith, s .place);
+      tail = drop-next es (b .head .at) finish (replicate (suc n) finish) (s .tail);
+      left-over = λ a. (enough atOnce (suc n) (b .head .permits) (b .head .denies) (s .left-over u .0) d, omega (arith, d));
+      within = s .within;
+      moved = rw u (brought g entry es y orig (suc n) b s u d);
+    })))
 
 -- what stands on the stack of e when the tree decides d
 abbrev shares : Decision → Decision → List ℕ → List ℕ
 shares d e xs = if (is d e) xs []
-
-left-alone : (c : Child) (d e : Decision) → said c ≡ d → binding d (owed (c .target) (c .duties)) ≡ owed (c .target) (c .duties)
-    → left First (c ∷ []) [] d e ≡ shares d e (owed (c .target) (c .duties))
-unfolding handed ownOf
-left-alone c d e h b =
-    rw (
-      h,
-      nothing (if (is d NotApplicable) false true),
-      append-nil (if (is d d) (owed (c .target) (c .duties)) []),
-      append-nil (if (is d d) (owed (c .target) (c .duties)) []),
-      self d,
-    )
-    (rw b refl)
-  where
-    self : (d : Decision) → is d d ≡ true
-    self Permit = refl
-    self Deny = refl
-    self NotApplicable = refl
-    self Indeterminate = refl
-
-top : (x : Tree) (g : Bags) (tail : List Entry) → deepTree x < roomL → nestTree x < roomF
-    → (f : Frame) × Goes g (still (codeBody (codeTrees First (tree x noTree)) [] ++ tail) (idle ∷ []) Permit [] [])
-    (still tail (f ∷ []) (decides g x) (shares (decides g x) Permit (obliges g x)) (shares (decides g x) Deny (obliges g x)))
-unfolding childOf nestTree deepTree decides obliges
-top x g tail dp l =
-    let c : Child = childOf g x in
-    let z = body g First (codeTrees First (tree x noTree)) (c ∷ []) [] (nestTrees (tree x noTree))
-    (sim-trees (tree x noTree) g First (Ranked R0) (omega (arith, dp))) tail [] [] [] (omega (arith, l)) in (
-      fr First (walk First (Ranked R0) (c ∷ [])) 0 0,
-      rw (left-alone c (said c) Permit refl (quiet x g), left-alone c (said c) Deny refl (quiet x g)) at (rw (alone c) at z),
-    )
 
 -- the run of a programme from b: it ends within the programme's length and not before its last step, with the decision d, and the obligations os are
 -- the first places in order; on the way every state is one that the layout allows
@@ -320,15 +272,15 @@ none-else NotApplicable os h = refl
 none-else Indeterminate os h = refl
 
 -- the whole run: k steps from a to b, the tree's code, the last entries
-closing : (g : Bags) (entry : ℕ → Entry) (es : List Entry) (w n k : ℕ) (a b : Flat) (f : Frame) (d : Decision) (os : List ℕ) → Runs g entry es k a b → k ≤ b .head .at
-    → (r : Reached g entry es w b (still (replicate n shift ++ (finish ∷ [])) (f ∷ []) d (shares d Permit os) (shares d Deny os)))
+closing : (g : Bags) (entry : ℕ → Entry) (es : List Entry) (w n k : ℕ) (a b : Flat) (fs : List Frame) (d : Decision) (os : List ℕ) → 0 < k → Runs g entry es k a b → k ≤ b .head .at
+    → (r : Reached g entry es w b (still (replicate (suc n) finish) fs d (shares d Permit os) (shares d Deny os)))
     → Ended g entry es (r .ends .places) (suc n) (r .ends) → r .ends .head .at + suc n ≡ length es → binding d os ≡ os → Answers g entry es a d os
 unfolding register permitted denied
-closing g entry es w n k a b f d os before kb r z place free = record {
+closing g entry es w n k a b fs d os some before kb r z place free = record {
   steps = k + r .steps + z .steps;
   ends = z .ends;
   runs = ran all;
-  begun = omega (arith, z .begun);
+  begun = omega (arith, some);
   few = omega (arith, z .few, r .forth, kb, place);
   over = z .over;
   small = z .small;
@@ -348,13 +300,13 @@ closing g entry es w n k a b f d os before kb r z place free = record {
     all : Runs g entry es (k + r .steps + z .steps) a (z .ends)
     all = runs-on (runs-on before (r .runs)) (z .runs)
 
-finishing : (g : Bags) (entry : ℕ → Entry) (es : List Entry) → Codes entry es → (w n k : ℕ) (a b : Flat) (f : Frame) (d : Decision) (os : List ℕ)
-    → Runs g entry es k a b → k ≤ b .head .at
-    → Reached g entry es w b (still (replicate n shift ++ (finish ∷ [])) (f ∷ []) d (shares d Permit os) (shares d Deny os))
-    → w ≤ atOnce * n → binding d os ≡ os → Answers g entry es a d os
+finishing : (g : Bags) (entry : ℕ → Entry) (es : List Entry) → Codes entry es → (w n k : ℕ) (a b : Flat) (fs : List Frame) (d : Decision) (os : List ℕ)
+    → 0 < k → Runs g entry es k a b → k ≤ b .head .at
+    → Reached g entry es w b (still (replicate (suc n) finish) fs d (shares d Permit os) (shares d Deny os))
+    → w ≤ atOnce * suc n → binding d os ≡ os → Answers g entry es a d os
 unfolding ahead register permitted
-finishing g entry es y w n k a b f d os before kb r wn free =
-    closing g entry es w n k a b f d os before kb r
+finishing g entry es y w n k a b fs d os some before kb r wn free =
+    closing g entry es w n k a b fs d os some before kb r
     (sim-tail n g entry es y (r .ends .places) (r .ends)
     (record {
       running = r .fits .running;
@@ -367,13 +319,13 @@ finishing g entry es y w n k a b f d os before kb r wn free =
     }))
     place free
   where
-    tail : replicate n shift ++ (finish ∷ []) ≡ drop (r .ends .head .at) es
+    tail : replicate (suc n) finish ≡ drop (r .ends .head .at) es
     tail = ap ahead (r .stands)
 
     place : r .ends .head .at + suc n ≡ length es
     place =
-        let lt : length (replicate n shift ++ (finish ∷ [])) ≡ n + 1 = length-append (replicate n shift) (finish ∷ []) ∙ ap (λ (k : ℕ). k + 1) (length-replicate n shift) in
-        let lz : length (replicate n shift ++ (finish ∷ [])) ≡ length es - r .ends .head .at = ap (λ (ys : List Entry). length ys) tail ∙ length-drop (r .ends .head .at) es in
+        let lt = length-replicate (suc n) finish in
+        let lz : length (replicate (suc n) finish) ≡ length es - r .ends .head .at = ap (λ (ys : List Entry). length ys) tail ∙ length-drop (r .ends .head .at) es in
         omega (arith, lt, lz)
 
     -- with Deny nothing is left of Permit's
@@ -412,13 +364,13 @@ fresh-small = record {
 }
 
 module _ (x : Tree) (g : Bags) (entry : ℕ → Entry) (n c : ℕ) (y : Codes entry (programme x c n)) (dp : deepTree x ≤ 14) (l : nestTree x ≤ 16)
-    (wp : obligations Permits x ≤ c) (wd : obligations Denies x ≤ atOnce * n) (room : c + obligations Denies x ≤ 1000) where
+    (wp : obligations Permits x ≤ c) (wd : obligations Denies x ≤ atOnce * suc n) (room : c + obligations Denies x ≤ 1000) where
   abbrev es : List Entry
   es = programme x c n
 
   -- after the first step
   abbrev cutting : Flat
-  cutting = flatAfter (begin c) (sees g (length es) (begin c) fresh) fresh
+  cutting = flatAfter (begin (algorithmOf x) c) (sees g (length es) (begin (algorithmOf x) c) fresh) fresh
 
   first-step : Runs g entry es 1 fresh cutting
   unfolding programme fresh flatStep Codes
@@ -433,7 +385,7 @@ module _ (x : Tree) (g : Bags) (entry : ℕ → Entry) (n c : ℕ) (y : Codes en
       let d = w-programme Denies x c n in
       record {
         running = refl;
-        small = still-small (begin c) (sees g (length es) (begin c) fresh) fresh fresh-small (omega arith) (omega (arith, room));
+        small = still-small (begin (algorithmOf x) c) (sees g (length es) (begin (algorithmOf x) c) fresh) fresh fresh-small (omega arith) (omega (arith, room));
         roomP = omega (arith, p, wp);
         roomD = omega (arith, d);
         space = room;
@@ -442,14 +394,14 @@ module _ (x : Tree) (g : Bags) (entry : ℕ → Entry) (n c : ℕ) (y : Codes en
   answers : Answers g entry es (flatOf freshOf) (decides g x) (obliges g x)
   unfolding programme fresh headAfter core stackOf decides obliges
   answers =
-      let z = top x g (replicate n shift ++ (finish ∷ [])) (omega (arith, dp)) (omega (arith, l)) in
+      let z = sim-top x g (replicate (suc n) finish) (idle ∷ []) [] [] (omega (arith, dp)) (omega (arith, l)) in
       rw fresh-is
-      (finishing g entry es y (obligations Denies x) n 1 fresh cutting (z .0) (decides g x) (obliges g x) first-step (omega arith)
+      (finishing g entry es y (obligations Denies x) n 1 fresh cutting (z .0 ∷ idle ∷ []) (decides g x) (obliges g x) (omega arith) first-step (omega arith)
       (carry entry es y (obligations Denies x) (z .1) cutting refl fits) wd (quiet x g))
 
--- the programme of a tree answers what the tree means: c places for Permit's obligations, n entries to bring Deny's down
+-- the programme of a tree answers what the tree means: c places for Permit's obligations, an end and n more to bring Deny's down
 pub whole : (x : Tree) (g : Bags) (entry : ℕ → Entry) (n c : ℕ) → Codes entry (programme x c n) → deepTree x ≤ 14 → nestTree x ≤ 16
-    → obligations Permits x ≤ c → obligations Denies x ≤ atOnce * n → c + obligations Denies x ≤ 1000
+    → obligations Permits x ≤ c → obligations Denies x ≤ atOnce * suc n → c + obligations Denies x ≤ 1000
     → Answers g entry (programme x c n) (flatOf freshOf) (decides g x) (obliges g x)
 whole x g entry n c = answers x g entry n c
 
@@ -458,5 +410,5 @@ pub translated-right : (x : Tree) (g : Bags) (entry : ℕ → Entry) → Codes e
     → Answers g entry (translated x) (flatOf freshOf) (decides g x) (obliges g x)
 unfolding translated
 translated-right x g entry y dp l room =
-    let enough-of : obligations Denies x ≤ 2 * ((obligations Denies x + 1) / 2) = omega arith in
-    whole x g entry ((obligations Denies x + 1) / 2) (obligations Permits x) y dp l (omega arith) enough-of room
+    let enough-of : obligations Denies x ≤ 2 * suc ((obligations Denies x - 1) / 2) = omega arith in
+    whole x g entry ((obligations Denies x - 1) / 2) (obligations Permits x) y dp l (omega arith) enough-of room

@@ -17,10 +17,10 @@ use Rattle.meaning.specs.declared.Effect.the-variants.{Permits, Denies}
 use Rattle.meaning.specs.declared.Algorithm.{Algorithm}
 use Rattle.meaning.specs.declared.Algorithm.the-variants.{First}
 use Rattle.algorithm.specs.Fold.{isOnly}
-use Rattle.programme.specs.Entry.{Entry, begin, match, further, opens, compare, close, rule, enter, applies, conclude, oblige, leave, shift, finish, extra, reach}
+use Rattle.programme.specs.Entry.{Entry, begin, match, further, opens, compare, close, rule, enter, applies, conclude, oblige, leave, finish, extra, reach}
 use Rattle.programme.specs.declared.Op.{Op}
 use Rattle.programme.specs.declared.Op.the-variants.{All, Any, Not}
-use Rattle.translator.specs.Code.{codeConjunction, codeSection, codeTarget, codeCondition, codeConditions, codeWhen, codeRule, codeRules, codeObligations, codeApplies, codeBody, codeShell, codeTree, codeTrees, owns, obligations, obligationsAll, programme, translated, inNumbers}
+use Rattle.translator.specs.Code.{codeConjunction, codeSection, codeTarget, codeCondition, codeConditions, codeWhen, codeRule, codeRules, codeObligations, codeApplies, codeBody, codeWithin, codeShell, codeTree, codeTrees, algorithmOf, codeTop, owns, obligations, obligationsAll, programme, translated, inNumbers}
 use Rattle.translator.specs.Flat.{isFurther, Codes}
 use Rattle.programme.specs.Layout.{wordsOf}
 use Rattle.meaning.specs.declared.Test.{Test}
@@ -32,7 +32,7 @@ piece e = e ∷ replicate (extra e) further
 
 -- an entry's test, number or cut has a property
 abbrev pub Holds : (Test → Type 0) → (ℕ → Type 0) → Entry → Type 0
-Holds T N (begin c) = c ≤ 1000
+Holds T N (begin al c) = c ≤ 1000
 Holds T N (match t m c l i j x) = T t
 Holds T N further = Unit
 Holds T N (opens op) = Unit
@@ -44,7 +44,6 @@ Holds T N (applies n) = Unit
 Holds T N (conclude n) = Unit
 Holds T N (oblige e n) = N n
 Holds T N (leave n) = Unit
-Holds T N shift = Unit
 Holds T N finish = Unit
 
 module _ (T : Test → Type 0) (N : ℕ → Type 0) (P : List Entry → Type 0) (nil : P []) (app : (xs ys : List Entry) → P xs → P ys → P (xs ++ ys)) (one : (e : Entry) → isFurther e ≡ false → Holds T N e → P (piece e)) where
@@ -114,14 +113,18 @@ module _ (T : Test → Type 0) (N : ℕ → Type 0) (P : List Entry → Type 0) 
       app kids (conclude (length (codeObligations os)) ∷ codeObligations os) h
       (app (conclude (length (codeObligations os)) ∷ []) (codeObligations os) (one (conclude (length (codeObligations os))) refl tt) (b-duties os i))
 
+  b-within : (up : Algorithm) (t : Target) (kids : List Entry) (os : List Obligation) (n : ℕ) → InTarget T t → P kids → InObligations T N os → P (codeWithin up t (codeBody kids os) n)
+  unfolding codeWithin
+  b-within up t kids os n i h j =
+      let bd : List Entry = codeBody kids os in
+      let ap : List Entry = codeApplies (isOnly up) (length bd + suc n) in
+      app (codeTarget t (length ap + length bd)) (ap ++ bd) (b-target t i (length ap + length bd)) (app ap bd (b-applies (isOnly up) (length bd + suc n)) (b-body kids os h j))
+
   b-shell : (up a : Algorithm) (t : Target) (kids : List Entry) (os : List Obligation) (n : ℕ) → InTarget T t → P kids → InObligations T N os → P (codeShell up a t kids os n)
   unfolding codeShell
   b-shell up a t kids os n i h j =
-      let bd : List Entry = codeBody kids os in
-      let ap : List Entry = codeApplies (isOnly up) (length bd + suc n) in
-      app (enter a ∷ []) (codeTarget t (length ap + length bd) ++ (ap ++ (bd ++ (leave n ∷ [])))) (one (enter a) refl tt)
-      (app (codeTarget t (length ap + length bd)) (ap ++ (bd ++ (leave n ∷ []))) (b-target t i (length ap + length bd))
-      (app ap (bd ++ (leave n ∷ [])) (b-applies (isOnly up) (length bd + suc n)) (app bd (leave n ∷ []) (b-body kids os h j) (one (leave n) refl tt))))
+      app (enter a ∷ []) (codeWithin up t (codeBody kids os) n ++ (leave n ∷ [])) (one (enter a) refl tt)
+      (app (codeWithin up t (codeBody kids os) n) (leave n ∷ []) (b-within up t kids os n i h j) (one (leave n) refl tt))
 
   mutual
     unfolding codeTree InTree
@@ -134,16 +137,20 @@ module _ (T : Test → Type 0) (N : ℕ → Type 0) (P : List Entry → Type 0) 
     b-trees noTree h up = nil
     b-trees (tree x ns) h up = app (codeTree up x (length (codeTrees up ns))) (codeTrees up ns) (b-tree x (h .0) up (length (codeTrees up ns))) (b-trees ns (h .1) up)
 
-  b-tail : (n : ℕ) → P (replicate n shift ++ (finish ∷ []))
-  b-tail zero = one finish refl tt
-  b-tail (suc n) = app (shift ∷ []) (replicate n shift ++ (finish ∷ [])) (one shift refl tt) (b-tail n)
+  b-ends : (n : ℕ) → P (replicate n finish)
+  b-ends zero = nil
+  b-ends (suc n) = app (finish ∷ []) (replicate n finish) (one finish refl tt) (b-ends n)
+
+  b-top : (x : Tree) → InTree T N x → P (codeTop x)
+  unfolding codeTop InTree
+  b-top (policy a t rs os) h = b-within First t (codeRules rs) os 0 (h .0) (b-rules rs (h .1)) (h .2)
+  b-top (set a t ns os) h = b-within First t (codeTrees (overPolicies a) ns) os 0 (h .0) (b-trees ns (h .1) (overPolicies a)) (h .2)
 
   pub built : (x : Tree) → InTree T N x → (c n : ℕ) → c ≤ 1000 → P (programme x c n)
-  unfolding programme InTree Every
+  unfolding programme
   built x h c n l =
-      let body : List Entry = codeBody (codeTrees First (tree x noTree)) [] in
-      let tail : List Entry = replicate n shift ++ (finish ∷ []) in
-      app (begin c ∷ []) (body ++ tail) (one (begin c) refl l) (app body tail (b-body (codeTrees First (tree x noTree)) [] (b-trees (tree x noTree) (h, tt) First) tt) (b-tail n))
+      app (begin (algorithmOf x) c ∷ []) (codeTop x ++ replicate (suc n) finish) (one (begin (algorithmOf x) c) refl l)
+      (app (codeTop x) (replicate (suc n) finish) (b-top x h) (b-ends (suc n)))
 
 never : true ≡ false → ⊥
 never z = let e : _≡_ {A = ℕ} 0 1 = ap (λ (b : Bool). if b 0 1) z in omega (arith, e)
@@ -171,7 +178,7 @@ numbers-more (suc k) es = numbers-more k es
 
 sized : (e : Entry) → isFurther e ≡ false → length (wordsOf e) ≡ suc (extra e)
 unfolding wordsOf
-sized (begin c) h = refl
+sized (begin al c) h = refl
 sized (match t m c l i j x) h = refl
 sized further h = absurd (never h)
 sized (opens op) h = refl
@@ -183,7 +190,6 @@ sized (applies n) h = refl
 sized (conclude n) h = refl
 sized (oblige e n) h = refl
 sized (leave n) h = refl
-sized shift h = refl
 sized finish h = refl
 
 pub same-length : {T : Test → Type 0} {N : ℕ → Type 0} {es : List Entry} → Padded T N es → length (inNumbers es) ≡ length es

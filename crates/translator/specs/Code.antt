@@ -1,5 +1,5 @@
 -- The programme of a policy tree. Assumes nothing.
-use Prim.Native.Nat.{ℕ, zero, suc, _+_, _/_, max}
+use Prim.Native.Nat.{ℕ, suc, _+_, _-_, _/_}
 use mathlib.Core.Bool.{Bool, true, false}
 use mathlib.Core.List.{List, [], _∷_, _++_}
 use lib.ListN.{length, replicate}
@@ -11,7 +11,7 @@ use Rattle.meaning.specs.declared.Effect.the-variants.{Permits, Denies}
 use Rattle.meaning.specs.declared.Algorithm.{Algorithm}
 use Rattle.meaning.specs.declared.Algorithm.the-variants.{First}
 use Rattle.algorithm.specs.Fold.{isOnly}
-use Rattle.programme.specs.Entry.{Entry, begin, match, further, opens, compare, close, rule, enter, applies, conclude, oblige, leave, shift, finish}
+use Rattle.programme.specs.Entry.{Entry, begin, match, further, opens, compare, close, rule, enter, applies, conclude, oblige, leave, finish}
 use Rattle.programme.specs.declared.Op.the-variants.{All, Any, Not}
 use Rattle.programme.specs.Core.{atOnce}
 use Rattle.programme.specs.Layout.{wordsOf}
@@ -70,12 +70,14 @@ codeApplies false n = []
 unfoldable pub codeBody : List Entry → List Obligation → List Entry
 codeBody kids os = kids ++ (conclude (length (codeObligations os)) ∷ codeObligations os)
 
--- a policy or set in a parent that combines by `up`; n as for a rule
-unfoldable pub codeShell : Algorithm → Algorithm → Target → List Entry → List Obligation → ℕ → List Entry
-codeShell up a t kids os n =
-    let body = codeBody kids os in
+-- what stands between entering and leaving a policy or set with this target and body, in a parent that combines by `up`; n as for a rule
+unfoldable pub codeWithin : Algorithm → Target → List Entry → ℕ → List Entry
+codeWithin up t body n =
     let app = codeApplies (isOnly up) (length body + suc n) in
-    enter a ∷ codeTarget t (length app + length body) ++ (app ++ (body ++ (leave n ∷ [])))
+    codeTarget t (length app + length body) ++ (app ++ body)
+
+unfoldable pub codeShell : Algorithm → Algorithm → Target → List Entry → List Obligation → ℕ → List Entry
+codeShell up a t kids os n = enter a ∷ codeWithin up t (codeBody kids os) n ++ (leave n ∷ [])
 
 -- policies and sets
 unfoldable mutual
@@ -101,13 +103,22 @@ unfoldable mutual
   obligationsAll e noTree = 0
   obligationsAll e (tree n ns) = obligations e n + obligationsAll e ns
 
--- the programme: the tree as the one child of a first-applicable set, n entries to bring Deny's obligations down, and the end
-unfoldable pub programme : Tree → ℕ → ℕ → List Entry
-programme x c n = begin c ∷ codeBody (codeTrees First (tree x noTree)) [] ++ (replicate n shift ++ (finish ∷ []))
+-- the top record: its algorithm, and what follows when it is entered; its decision is the register's, so that it is never left
+abbrev pub algorithmOf : Tree → Algorithm
+algorithmOf (policy a t rs os) = overRules a
+algorithmOf (set a t ns os) = overPolicies a
 
--- Deny's obligations begin behind room for all of Permit's, and come down `atOnce` at a time
+unfoldable pub codeTop : Tree → List Entry
+codeTop (policy a t rs os) = codeWithin First t (codeBody (codeRules rs) os) 0
+codeTop (set a t ns os) = codeWithin First t (codeBody (codeTrees (overPolicies a) ns) os) 0
+
+-- the programme: c places for Permit's obligations, the top record, and an end with n more like it, which bring Deny's obligations down
+unfoldable pub programme : Tree → ℕ → ℕ → List Entry
+programme x c n = begin (algorithmOf x) c ∷ codeTop x ++ replicate (suc n) finish
+
+-- Deny's obligations begin behind room for all of Permit's, and come down `atOnce` at an end
 unfoldable pub translated : Tree → List Entry
-translated x = programme x (obligations Permits x) ((obligations Denies x + 1) / atOnce)
+translated x = programme x (obligations Permits x) ((obligations Denies x - 1) / atOnce)
 
 -- as numbers
 unfoldable pub inNumbers : List Entry → List ℕ

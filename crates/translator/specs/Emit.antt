@@ -12,7 +12,7 @@ use Rattle.meaning.specs.Reading.{isKind, choiceAt, matchAt, rowOf, conjunction
 use Rattle.meaning.specs.declared.Algorithm.{Algorithm}
 use Rattle.meaning.specs.declared.Effect.{Effect}
 use Rattle.programme.specs.Entry.{Entry}
-use Rattle.translator.specs.Code.{codeConjunction, codeSection, codeTarget, codeCondition, codeConditions, codeWhen, codeRule, codeRules, codeObligations, codeBody, codeTree, codeTrees, owns, obligationsAll, inNumbers}
+use Rattle.translator.specs.Code.{codeConjunction, codeSection, codeTarget, codeCondition, codeConditions, codeWhen, codeRule, codeRules, codeObligations, codeBody, codeWithin, codeTree, codeTrees, owns, obligationsAll, inNumbers}
 
 -- these numbers stand right before `end`, from `start` on, and nothing else is changed
 pub record Wrote (numbers : List ℕ) (end : ℕ) (before after : List ℕ) (start : ℕ) : Type 0 where
@@ -83,6 +83,10 @@ algorithmAt b i = if (isKind b i 1) (overPolicies (policiesBy (choiceAt b i))) (
 unfoldable pub bodyCode : List ℕ → ℕ → ℕ → List Entry
 bodyCode b i s =
     codeBody (if (isKind b i 1) (treesCode b (i + 1) (s - 1) (choiceAt b i)) (rulesCode b (i + 1) (s - 1))) (obligationsIn b (below b i s))
+
+-- what stands between its entering and leaving, in a set whose choice is `up`
+unfoldable pub withinCode : List ℕ → ℕ → ℕ → ℕ → ℕ → List Entry
+withinCode b i s up n = codeWithin (overPolicies (policiesBy up)) (targetIn b (below b i s)) (bodyCode b i s) n
 
 -- the obligations on e that are due in `left` records from i on: those of their parent, and, if that is a set, of the policies and sets among them
 unfoldable pub dueIn : List ℕ → ℕ → ℕ → Effect → Bool → ℕ

@@ -18,7 +18,7 @@ use Rattle.programme.specs.declared.Head.{Head}
 use Rattle.programme.specs.declared.Frame.{Frame}
 use Rattle.programme.specs.declared.Level.{Level}
 use Rattle.programme.specs.declared.State.{State}
-use Rattle.programme.specs.Entry.{Entry, begin, match, further, opens, compare, close, rule, enter, applies, conclude, oblige, leave, shift, finish}
+use Rattle.programme.specs.Entry.{Entry, begin, match, further, opens, compare, close, rule, enter, applies, conclude, oblige, leave, finish}
 use Rattle.programme.specs.Core.{Out, core}
 use Rattle.programme.specs.Machine.{roomF, roomL, stackAfter, placesAfter}
 use Rattle.programme.specs.Layout.{frameOf, levelOf, unpackOf}
@@ -66,7 +66,7 @@ flatOf s = record { head = unpackOf (s .head); frames = map frameOf (s .frames);
 
 -- the second or third entry of an operation
 abbrev pub isFurther : Entry → Bool
-isFurther (begin c) = false
+isFurther (begin al c) = false
 isFurther (match t m c l i j x) = false
 isFurther further = true
 isFurther (opens op) = false
@@ -78,7 +78,6 @@ isFurther (applies n) = false
 isFurther (conclude n) = false
 isFurther (oblige e n) = false
 isFurther (leave n) = false
-isFurther shift = false
 isFurther finish = false
 
 -- what is read in a programme is what the entries say, but for second and third entries
@@ -87,7 +86,7 @@ Codes entry es = (i : ℕ) → i < length es → isFurther (getD es i further) �
 
 -- obligation entries of an effect
 abbrev pub weighE : Effect → Entry → ℕ
-weighE w (begin c) = 0
+weighE w (begin al c) = 0
 weighE w (match t m c l i j x) = 0
 weighE w further = 0
 weighE w (opens op) = 0
@@ -99,7 +98,6 @@ weighE w (applies n) = 0
 weighE w (conclude n) = 0
 weighE w (oblige e n) = if (same e w) 1 0
 weighE w (leave n) = 0
-weighE w shift = 0
 weighE w finish = 0
 
 unfoldable pub weigh : (Entry → ℕ) → List Entry → ℕ

@@ -2,7 +2,7 @@
 // earlier ones, so that each distance is known when it is written: a function is told where its code ends, and gives where it starts.
 // A record is at i and has the span s; `left` records from i on are siblings. What c, l, n, x and `up` are is said in specs/Code.antt.
 // Functions call themselves for the next sibling and for what is below: no more calls are open at a time than the book has records, and
-// three more for each of its levels.
+// four more for each of its levels.
 use judge::Judged;
 use meaning::Test;
 use record::Refusal;
@@ -10,15 +10,15 @@ use value::Function;
 ghost use mathlib.Core.Path.{_≡_};
 ghost use mathlib.Core.Bool.{true, false};
 ghost use mathlib.Core.List.{[], _∷_};
-ghost use Prim.Native.Nat.{suc, _+_, _*_, _-_, _<_, _≤_};
+ghost use Prim.Native.Nat.{suc, _+_, _*_, _-_, _/_, _<_, _≤_};
 ghost use lib.ListN.{length, set, replicate};
 ghost use Rattle.meaning.specs.Meaning.{overRules, overPolicies};
 ghost use Rattle.meaning.specs.Reading.{matchAt, comparisonAt, effectOf, rulesBy, policiesBy, bookOf};
 ghost use Rattle.algorithm.specs.Fold.{isOnly};
-ghost use Rattle.programme.specs.Entry.{match, further, compare, shift};
+ghost use Rattle.programme.specs.Entry.{match, further, compare, finish};
 ghost use Rattle.programme.specs.Layout.{bitOf, effectCode, algorithmCode, functionCode, testWord};
 ghost use Rattle.translator.specs.Code.{codeApplies, translated};
-ghost use Rattle.translator.specs.Emit.{Wrote, Emitted, algorithmAt, dueIn, matchesCode, conjunctionCode, conjunctionsCode, sectionCode, targetCode, conditionCode, conditionsCode, whenCode, ruleCode, rulesCode, obligationsCode, treeCode, treesCode, bodyCode};
+ghost use Rattle.translator.specs.Emit.{Wrote, Emitted, algorithmAt, dueIn, matchesCode, conjunctionCode, conjunctionsCode, sectionCode, targetCode, conditionCode, conditionsCode, whenCode, ruleCode, rulesCode, obligationsCode, treeCode, treesCode, bodyCode, withinCode};
 ghost use Rattle.translator.specs.Translate.{translateOf, leaves};
 
 // What an entry is, by its number.
@@ -44,9 +44,7 @@ const OBLIGE: u64 = 9;
 
 const LEAVE: u64 = 10;
 
-const SHIFT: u64 = 11;
-
-const FINISH: u64 = 12;
+const FINISH: u64 = 11;
 
 pub enum Translated {
     Entries(usize),
@@ -450,16 +448,32 @@ fn algorithm_code(book: &[u8], i: usize) -> usize
     over_rules(choice)
 }
 
+// What stands between entering and leaving the policy or set at record i, in a set whose choice is `up`.
+fn within(
+    book: &[u8],
+    i: usize,
+    s: usize,
+    up: usize,
+    n: usize,
+    out: &mut [u64],
+    end: usize,
+) -> usize
+    requires { ⌜ (0 < s) × ((i + s) * 16 ≤ length (now book)) × (length (withinCode (now book) i s up n) ≤ end) × (end + n < 16384) ⌝ }
+    ensures { λ r. ⌜ Emitted (withinCode (now (book .entry)) i s up n) end (now (out .entry)) (now (out .exit)) r ⌝ }
+{
+    let low = body(book, i, s, out, end);
+    let away = beyond(low, end, n);
+    let mid = applies(up, away, out, low);
+    target(book, i + 1, s - 1, end - mid, out, mid)
+}
+
 // The policy or set at record i, in a set whose choice is `up`.
 fn tree(book: &[u8], i: usize, s: usize, up: usize, n: usize, out: &mut [u64], end: usize) -> usize
     requires { ⌜ (0 < s) × ((i + s) * 16 ≤ length (now book)) × (length (treeCode (now book) i s up n) ≤ end) × (end + n ≤ 16384) ⌝ }
     ensures { λ r. ⌜ Emitted (treeCode (now (book .entry)) i s up n) end (now (out .entry)) (now (out .exit)) r ⌝ }
 {
     let foot = single(out, end, LEAVE, n);
-    let low = body(book, i, s, out, foot);
-    let away = beyond(low, foot, n);
-    let mid = applies(up, away, out, low);
-    let head = target(book, i + 1, s - 1, foot - mid, out, mid);
+    let head = within(book, i, s, up, n, out, foot);
     single(out, head, ENTER, algorithm_code(book, i))
 }
 
@@ -512,16 +526,16 @@ fn due(book: &[u8], i: usize, left: usize, e: usize, set: bool) -> usize
     behind
 }
 
-// So many entries that bring obligations on Deny down.
-fn shifts(out: &mut [u64], end: usize, n: usize) -> usize
-    requires { ⌜ n ≤ end ⌝ }
-    ensures { λ r. ⌜ Emitted (replicate n shift) end (now (out .entry)) (now (out .exit)) r ⌝ }
+// The ends for so many obligations on Deny: each brings two of them down, and there is one where there are none.
+fn ends(out: &mut [u64], end: usize, left: usize) -> usize
+    requires { ⌜ length (replicate (suc ((left - 1) / 2)) finish) ≤ end ⌝ }
+    ensures { λ r. ⌜ Emitted (replicate (suc ((left - 1) / 2)) finish) end (now (out .entry)) (now (out .exit)) r ⌝ }
 {
-    if n == 0 {
-        return end;
+    if left < 3 {
+        return single(out, end, FINISH, 0);
     }
-    let mid = shifts(out, end, n - 1);
-    single(out, mid, SHIFT, 0)
+    let mid = ends(out, end, left - 2);
+    single(out, mid, FINISH, 0)
 }
 
 // The programme of n records.
@@ -532,11 +546,9 @@ fn programme(book: &[u8], n: usize, out: &mut [u64], end: usize) -> usize
     let set = record::byte(book, 0, 0) == 1;
     let permits = due(book, 1, n - 1, 1, set);
     let denies = due(book, 1, n - 1, 2, set);
-    let last = single(out, end, FINISH, 0);
-    let foot = shifts(out, last, (denies + 1) / 2);
-    let mid = single(out, foot, CONCLUDE, 0);
-    let head = tree(book, 0, n, 3, 0, out, mid);
-    single(out, head, BEGIN, permits)
+    let foot = ends(out, end, denies);
+    let head = within(book, 0, n, 3, 0, out, foot);
+    single(out, head, BEGIN, algorithm_code(book, 0) + 8 * permits)
 }
 
 // The number of its entries, found by writing it nowhere.

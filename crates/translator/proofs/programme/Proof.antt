@@ -1,25 +1,19 @@
-use Rattle.translator.proofs.Emit.{five-fits, four-fits, three-fits, two-fits, one-fits, five, finished, concluded, begun, shifts-room, programme-parts}
+use Rattle.translator.proofs.Emit.{third-fits, second-fits, first-fits, three, begun, programme-parts}
 use borrow.Author.Needs.{needs}
 use Rattle.translator.proofs.programme.Statement.{statement}
 use Rattle.translator.proofs.programme.Tie as tie
 
+ends-requires : tie.Need-ends-requires
+ends-requires c κs = third-fits (programme-parts _ _ (c .before .before .before .before .before .before .pre .2) (c .before .before .before .byte .ensures .0) (c .before .before .due .ensures .0) (c .before .due2 .ensures .0)) _ (c .before .before .before .before .before .before .pre .3)
+
+within-requires : tie.Need-within-requires
+within-requires c κs = (search needs, search needs, second-fits (programme-parts _ _ (c .before .before .before .before .before .before .before .before .before .before .pre .2) (c .before .before .before .before .before .before .before .byte .ensures .0) (c .before .before .before .before .before .before .due .ensures .0) (c .before .before .before .before .before .due2 .ensures .0)) (c .before .before .before .before .before .before .before .before .before .before .pre .3) (c .before .before .before .ends .ensures), search needs)
+
 single-requires : tie.Need-single-requires
-single-requires c κs = (five-fits (programme-parts _ _ (c .before .before .before .before .before .before .pre .2) (c .before .before .before .byte .ensures .0) (c .before .before .due .ensures .0) (c .before .due2 .ensures .0)) _ (c .before .before .before .before .before .before .pre .3), search needs, search needs)
-
-shifts-requires : tie.Need-shifts-requires
-shifts-requires c κs = shifts-room _ _ (four-fits (programme-parts _ _ (c .before .before .before .before .before .before .before .before .before .before .pre .2) (c .before .before .before .before .before .before .before .byte .ensures .0) (c .before .before .before .before .before .before .due .ensures .0) (c .before .before .before .before .before .due2 .ensures .0)) (c .before .before .before .before .before .before .before .before .before .before .pre .3) (finished (c .before .before .before .single .ensures)))
-
-single-requires-2 : tie.Need-single-requires-2
-single-requires-2 c κs = (three-fits (programme-parts _ _ (c .before .before .before .before .before .before .before .before .before .before .before .before .before .before .pre .2) (c .before .before .before .before .before .before .before .before .before .before .before .byte .ensures .0) (c .before .before .before .before .before .before .before .before .before .before .due .ensures .0) (c .before .before .before .before .before .before .before .before .before .due2 .ensures .0)) (c .before .before .before .before .before .before .before .before .before .before .before .before .before .before .pre .3) (finished (c .before .before .before .before .before .before .before .single .ensures)) (c .before .before .before .shifts .ensures), search needs, search needs)
-
-tree-requires : tie.Need-tree-requires
-tree-requires c κs = (search needs, search needs, two-fits (programme-parts _ _ (c .before .before .before .before .before .before .before .before .before .before .before .before .before .before .before .before .before .before .pre .2) (c .before .before .before .before .before .before .before .before .before .before .before .before .before .before .before .byte .ensures .0) (c .before .before .before .before .before .before .before .before .before .before .before .before .before .before .due .ensures .0) (c .before .before .before .before .before .before .before .before .before .before .before .before .before .due2 .ensures .0)) (c .before .before .before .before .before .before .before .before .before .before .before .before .before .before .before .before .before .before .pre .3) (finished (c .before .before .before .before .before .before .before .before .before .before .before .single .ensures)) (c .before .before .before .before .before .before .before .shifts .ensures) (concluded 0 (c .before .before .before .single2 .ensures)), search needs)
-
-single-requires-3 : tie.Need-single-requires-3
-single-requires-3 c κs = (one-fits (programme-parts _ _ (c .before .before .before .before .before .before .before .before .before .before .before .before .before .before .before .before .before .before .before .before .before .before .pre .2) (c .before .before .before .before .before .before .before .before .before .before .before .before .before .before .before .before .before .before .before .byte .ensures .0) (c .before .before .before .before .before .before .before .before .before .before .before .before .before .before .before .before .before .before .due .ensures .0) (c .before .before .before .before .before .before .before .before .before .before .before .before .before .before .before .before .before .due2 .ensures .0)) (c .before .before .before .before .before .before .before .before .before .before .before .before .before .before .before .before .before .before .before .before .before .before .pre .3) (finished (c .before .before .before .before .before .before .before .before .before .before .before .before .before .before .before .single .ensures)) (c .before .before .before .before .before .before .before .before .before .before .before .shifts .ensures) (concluded 0 (c .before .before .before .before .before .before .before .single2 .ensures)) (c .before .before .before .tree .ensures), search needs, search needs)
+single-requires c κs = (first-fits (programme-parts _ _ (c .before .before .before .before .before .before .before .before .before .before .before .before .before .before .before .pre .2) (c .before .before .before .before .before .before .before .before .before .before .before .before .byte .ensures .0) (c .before .before .before .before .before .before .before .before .before .before .before .due .ensures .0) (c .before .before .before .before .before .before .before .before .before .before .due2 .ensures .0)) (c .before .before .before .before .before .before .before .before .before .before .before .before .before .before .before .pre .3) (c .before .before .before .before .before .before .before .before .ends .ensures) (c .before .before .before .before .within .ensures), search needs, search needs)
 
 returns : tie.Need-returns
-returns c = five (programme-parts _ _ (c .before .before .before .before .before .before .before .before .before .before .before .before .before .before .before .before .before .before .before .before .before .before .before .before .before .pre .2) (c .before .before .before .before .before .before .before .before .before .before .before .before .before .before .before .before .before .before .before .before .before .before .byte .ensures .0) (c .before .before .before .before .before .before .before .before .before .before .before .before .before .before .before .before .before .before .before .before .before .due .ensures .0) (c .before .before .before .before .before .before .before .before .before .before .before .before .before .before .before .before .before .before .before .before .due2 .ensures .0)) (finished (c .before .before .before .before .before .before .before .before .before .before .before .before .before .before .before .before .before .before .single .ensures)) (c .before .before .before .before .before .before .before .before .before .before .before .before .before .before .shifts .ensures) (concluded 0 (c .before .before .before .before .before .before .before .before .before .before .single2 .ensures)) (c .before .before .before .before .before .before .tree .ensures) (begun _ (c .before .before .single3 .ensures))
+returns c = three (programme-parts _ _ (c .before .before .before .before .before .before .before .before .before .before .before .before .before .before .before .before .before .before .pre .2) (c .before .before .before .before .before .before .before .before .before .before .before .before .before .before .before .byte .ensures .0) (c .before .before .before .before .before .before .before .before .before .before .before .before .before .before .due .ensures .0) (c .before .before .before .before .before .before .before .before .before .before .before .before .before .due2 .ensures .0)) (c .before .before .before .before .before .before .before .before .before .before .before .ends .ensures) (c .before .before .before .before .before .before .before .within .ensures) (begun _ _ (c .before .before .before .algorithm-code .ensures .0) (c .before .before .single .ensures))
 
 pub programme-spec : {M : Type 1} → statement M
 programme-spec =
@@ -30,11 +24,11 @@ programme-spec =
     (λ c κs. search needs)
     (λ c. search needs)
     (λ c κs. search needs)
-    single-requires
+    ends-requires
+    within-requires
+    (λ c κs. search needs)
     (λ c. search needs)
-    shifts-requires
-    single-requires-2
-    tree-requires
-    single-requires-3
+    (λ c. search needs)
+    single-requires
     (λ c. search needs)
     returns)

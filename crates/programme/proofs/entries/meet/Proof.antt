@@ -57,14 +57,10 @@ returns-12 c = let a = c .before .before .before .before .before .before .args i
 
 returns-13 : tie.Need-returns-13
 unfolding entryBy
-returns-13 c = let a = c .before .before .before .before .before .before .args in rw (found (a .programme .now) (a .h .at) 11 (c .before .match .keys12)) (c .shift-at .ensures (bagsOf (a .request .now)) (levelOf (a .l)) (levelOf (a .m)) (frameOf (a .f)) (frameOf (a .b)))
+returns-13 c = let a = c .before .before .before .before .before .before .args in rw (found (a .programme .now) (a .h .at) 11 (c .before .match .keys12)) (c .finish-at .ensures (bagsOf (a .request .now)) (levelOf (a .l)) (levelOf (a .m)) (frameOf (a .f)) (frameOf (a .b)))
 
 returns-14 : tie.Need-returns-14
-unfolding entryBy
-returns-14 c = let a = c .before .before .before .before .before .before .args in rw (found (a .programme .now) (a .h .at) 12 (c .before .match .keys13)) (c .finish-at .ensures (bagsOf (a .request .now)) (levelOf (a .l)) (levelOf (a .m)) (frameOf (a .f)) (frameOf (a .b)))
-
-returns-15 : tie.Need-returns-15
-returns-15 c = let a = c .before .before .before .before .before .args in let n = c .match .rest in outside _ _ _ _ (levelOf (a .l)) (levelOf (a .m)) (frameOf (a .f)) (frameOf (a .b)) (lawful-none _ _ _ (past-all _ (n .0 .0 .0 .0 .0 .0 .0 .0 .0 .0 .0 .0 .1) (n .0 .0 .0 .0 .0 .0 .0 .0 .0 .0 .0 .1) (n .0 .0 .0 .0 .0 .0 .0 .0 .0 .0 .1) (n .0 .0 .0 .0 .0 .0 .0 .0 .0 .1) (n .0 .0 .0 .0 .0 .0 .0 .0 .1) (n .0 .0 .0 .0 .0 .0 .0 .1) (n .0 .0 .0 .0 .0 .0 .1) (n .0 .0 .0 .0 .0 .1) (n .0 .0 .0 .0 .1) (n .0 .0 .0 .1) (n .0 .0 .1) (n .0 .1) (n .1)))
+returns-14 c = let a = c .before .before .before .before .before .args in let n = c .match .rest in outside _ _ _ _ (levelOf (a .l)) (levelOf (a .m)) (frameOf (a .f)) (frameOf (a .b)) (lawful-none _ _ _ (past-all _ (n .0 .0 .0 .0 .0 .0 .0 .0 .0 .0 .0 .1) (n .0 .0 .0 .0 .0 .0 .0 .0 .0 .0 .1) (n .0 .0 .0 .0 .0 .0 .0 .0 .0 .1) (n .0 .0 .0 .0 .0 .0 .0 .0 .1) (n .0 .0 .0 .0 .0 .0 .0 .1) (n .0 .0 .0 .0 .0 .0 .1) (n .0 .0 .0 .0 .0 .1) (n .0 .0 .0 .0 .1) (n .0 .0 .0 .1) (n .0 .0 .1) (n .0 .1) (n .1)))
 
 pub meet-spec : {M : Type 1} → statement M
 meet-spec =
@@ -73,7 +69,6 @@ meet-spec =
     returns
     (λ c. search needs)
     (λ c. search needs)
-    (λ c κs. search needs)
     (λ c κs. search needs)
     (λ c κs. search needs)
     (λ c κs. search needs)
@@ -98,5 +93,4 @@ meet-spec =
     returns-11
     returns-12
     returns-13
-    returns-14
-    returns-15)
+    returns-14)
