@@ -520,7 +520,7 @@ static inline bool step_rule(struct run *run, unsigned effect, uint64_t way)
     return go_on(run, settled ? way : 0, R_PERMIT);
 }
 
-static inline bool step_enter(struct run *run, uint64_t n)
+static inline void open_frame(struct run *run, uint64_t n)
 {
     unsigned algorithm = n < ONLY_ONE ? (unsigned)n : ONLY_ONE;
     if (run->depth + 1 < FRAMES) {
@@ -528,6 +528,11 @@ static inline bool step_enter(struct run *run, uint64_t n)
         run->frames[run->depth] =
             frame_word((struct frame){ algorithm, algorithm == ONLY_ONE ? NOBODY : 0, run->permits, run->denies });
     }
+}
+
+static inline bool step_enter(struct run *run, uint64_t n)
+{
+    open_frame(run, n);
     run->reg = R_PERMIT;
     run->at++;
     return true;
@@ -586,8 +591,7 @@ static inline bool step_begin(struct run *run, uint64_t algorithm, uint64_t cut)
         return false;
     run->cut = (unsigned)cut;
     run->permits = run->denies = 0;
-    step_enter(run, algorithm);
-    run->at--;
+    open_frame(run, algorithm);
     return go_on(run, 0, R_PERMIT);
 }
 

@@ -167,10 +167,10 @@ module _ (f : ℕ → Bool) where
       (eq-or-lt-of-le l)
 
   -- each passes: the search runs through
-  first-reachF : (i k : ℕ) → ((j : ℕ) → i ≤ j → j < i + k → f j ≡ true) → firstFrom f i k ≡ i + k
+  pub first-reach-all : (i k : ℕ) → ((j : ℕ) → i ≤ j → j < i + k → f j ≡ true) → firstFrom f i k ≡ i + k
   unfolding firstFrom
-  first-reachF i zero h = omega arith
-  first-reachF i (suc k) h = rw (h i (omega arith) (omega arith)) (first-reachF (i + 1) k (λ j a z. h j (omega arith) (omega arith)) ∙ omega arith)
+  first-reach-all i zero h = omega arith
+  first-reach-all i (suc k) h = rw (h i (omega arith) (omega arith)) (first-reach-all (i + 1) k (λ j a z. h j (omega arith) (omega arith)) ∙ omega arith)
 
   pub first-reach : (n : ℕ) → ((j : ℕ) → j < n → f j ≡ true) → n ≤ firstFrom f 0 n
-  first-reach n h = omega (arith, first-reachF 0 n (λ j a z. h j (omega arith)))
+  first-reach n h = omega (arith, first-reach-all 0 n (λ j a z. h j (omega arith)))

@@ -60,7 +60,7 @@ compares b i f h e =
       name = λ q. eqb-true f 1 (rw q at w);
     }
 
-plain-span : (b : List ℕ) (i s : ℕ) → plainOk b i s ≡ true → s ≤ spanOf b i
+pub plain-span : (b : List ℕ) (i s : ℕ) → plainOk b i s ≡ true → s ≤ spanOf b i
 unfolding plainOk
 plain-span b i s e = leb-true s (spanOf b i) (both-left (leb s (spanOf b i)) (zeros b i 4 size) e)
 

@@ -136,7 +136,8 @@ fn function_ok(t: Sort, f: usize) -> bool
     }
 }
 
-fn plain_ok(book: &[u8], i: usize, s: usize) -> bool
+// A record that uses no byte but kind, choice and span, the span being at least s.
+pub fn plain_ok(book: &[u8], i: usize, s: usize) -> bool
     requires { ⌜ (i + 1) * size ≤ length (now book) ⌝ }
     ensures { λ r. ⌜ r ≡ plainOk (now (book .entry)) i s ⌝ }
 {
@@ -149,7 +150,8 @@ fn plain_ok(book: &[u8], i: usize, s: usize) -> bool
     big8(book, i * SIZE + 8) == 0
 }
 
-fn section_ok(book: &[u8], i: usize) -> bool
+// A section.
+pub fn section_ok(book: &[u8], i: usize) -> bool
     requires { ⌜ (i + 1) * size ≤ length (now book) ⌝ }
     ensures { λ r. ⌜ r ≡ sectionOk (now (book .entry)) i ⌝ }
 {
@@ -168,7 +170,8 @@ fn section_ok(book: &[u8], i: usize) -> bool
     big8(book, i * SIZE + 8) == 0
 }
 
-fn compares_ok(book: &[u8], i: usize, f: usize) -> bool
+// A match or comparison by function f.
+pub fn compares_ok(book: &[u8], i: usize, f: usize) -> bool
     requires { ⌜ (i + 1) * size ≤ length (now book) ⌝ }
     ensures { λ r. ⌜ r ≡ comparesOk (now (book .entry)) i f ⌝ }
 {
@@ -185,7 +188,8 @@ fn compares_ok(book: &[u8], i: usize, f: usize) -> bool
     function_ok(t, f)
 }
 
-fn obligation_ok(book: &[u8], i: usize) -> bool
+// An obligation.
+pub fn obligation_ok(book: &[u8], i: usize) -> bool
     requires { ⌜ (i + 1) * size ≤ length (now book) ⌝ }
     ensures { λ r. ⌜ r ≡ obligationOk (now (book .entry)) i ⌝ }
 {

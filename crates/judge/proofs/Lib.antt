@@ -1,5 +1,10 @@
 -- What the proofs of several functions, and of other crates, use.
 pub mod Laws
+pub mod Fits
+pub mod Rows
+pub mod Children
+pub mod Parts
+pub mod Parties
 pub mod Exactly
 pub mod ExactlyRequest
 pub mod Bounds

@@ -1,5 +1,6 @@
 pub mod Place
 pub mod Walk
+pub mod Row
 pub mod Judge
 pub mod Request
 pub mod Exactly

@@ -13,6 +13,9 @@ ghost use Rattle.judge.specs.Walk.{Walk, Finds};
 ghost use Rattle.judge.specs.Judge.{placeRefusal, judgeRecords, judgeOf};
 ghost use Rattle.judge.specs.Request.{judgeRequestOf};
 
+mod grammar;
+mod kept;
+
 // A book has at most so many records, a request so many entries, nesting so many levels.
 const MOST_RECORDS: usize = 1000;
 
@@ -259,8 +262,8 @@ fn place_refusal(rule: usize, line: usize) -> Refusal
     record::bad_place(line)
 }
 
-// The n records of a book of the right size.
-fn judge_records(book: &[u8], n: usize) -> Judged
+// The n records of a book of the right size, line by line.
+fn judge_lines(book: &[u8], n: usize) -> Judged
     requires { ⌜ (0 < n) × (length (now book) ≡ n * size) ⌝ }
     ensures { λ r. ⌜ r ≡ judgeRecords (now (book .entry)) n ⌝ }
 {
@@ -278,6 +281,21 @@ fn judge_records(book: &[u8], n: usize) -> Judged
     Judged::Accepted {
         records: n,
         obligations,
+    }
+}
+
+// The same: a sound book needs one pass; only a refusal is looked for line by line.
+fn judge_records(book: &[u8], n: usize) -> Judged
+    requires { ⌜ (0 < n) × (length (now book) ≡ n * size) ⌝ }
+    ensures { λ r. ⌜ r ≡ judgeRecords (now (book .entry)) n ⌝ }
+{
+    let sound = grammar::obligations(book, n);
+    if sound == 0 {
+        return judge_lines(book, n);
+    }
+    Judged::Accepted {
+        records: n,
+        obligations: sound - 1,
     }
 }
 

@@ -116,6 +116,12 @@ fn wide16(x: u8) -> u16
     x as u16
 }
 
+fn wide64(x: u8) -> u64
+    ensures { λ r. ⌜ (r ≡ x) × (r < 256) ⌝ }
+{
+    x as u64
+}
+
 // Byte k of record i.
 pub fn byte(book: &[u8], i: usize, k: usize) -> usize
     requires { ⌜ (k < 16) × ((i + 1) * 16 ≤ length (now book)) ⌝ }
@@ -147,6 +153,14 @@ pub fn span_in(book: &[u8], i: usize, left: usize) -> usize
     s
 }
 
+// Four bytes as a wide number; written so, eight of them are read at once.
+fn four(s: &[u8], at: usize) -> u64
+    requires { ⌜ at + 4 ≤ length (now s) ⌝ }
+    ensures { λ r. ⌜ (r ≡ bigOf (now (s .entry)) at 4) × (r < 4294967296) ⌝ }
+{
+    ((wide64(s[at]) * 256 + wide64(s[at + 1])) * 256 + wide64(s[at + 2])) * 256 + wide64(s[at + 3])
+}
+
 // The bytes from a place on as a number: two, four, eight of them.
 pub fn big2(s: &[u8], at: usize) -> u16
     requires { ⌜ at + 2 ≤ length (now s) ⌝ }
@@ -159,12 +173,12 @@ pub fn big4(s: &[u8], at: usize) -> u32
     requires { ⌜ at + 4 ≤ length (now s) ⌝ }
     ensures { λ r. ⌜ r ≡ bigOf (now (s .entry)) at 4 ⌝ }
 {
-    big2(s, at) as u32 * 65536 + big2(s, at + 2) as u32
+    four(s, at) as u32
 }
 
 pub fn big8(s: &[u8], at: usize) -> u64
     requires { ⌜ at + 8 ≤ length (now s) ⌝ }
     ensures { λ r. ⌜ r ≡ bigOf (now (s .entry)) at 8 ⌝ }
 {
-    big4(s, at) as u64 * 4294967296 + big4(s, at + 4) as u64
+    four(s, at) * 4294967296 + four(s, at + 4)
 }

@@ -11,14 +11,18 @@ ghost use Rattle.record.specs.Choose.{if};
 ghost use Rattle.record.specs.Forest.{forest};
 ghost use Rattle.meaning.specs.Logic.{isTrue, isFalse, andOf, orOf};
 ghost use Rattle.meaning.specs.Meaning.{conjunctionOf, sectionOf, targetOf, comparisonOf, conditionOf, under, decisionOf, whenOf, ruleOf, overRules, combine, ruleChildren};
-ghost use Rattle.meaning.specs.Reading.{testAt, matchAt, comparisonAt, conjunctionAt, sectionAt, targetIn, conditionAt, conditionsIn, whenIn, effectOf, ruleAt, rulesIn, rulesBy, bagsOf};
+ghost use Rattle.meaning.specs.Reading.{keyAt, testAt, matchAt, comparisonAt, conjunctionAt, sectionAt, targetIn, conditionAt, conditionsIn, whenIn, effectOf, ruleAt, rulesIn, rulesBy, bagsOf};
 
-// A byte, as the key counts.
-fn wide(x: usize) -> u32
-    requires { ⌜ x < 256 ⌝ }
-    ensures { λ r. ⌜ (r ≡ x) × (r < 256) ⌝ }
+// The key of the match or comparison at record i: bytes 4 to 7, without must-be-present.
+fn key_at(book: &[u8], i: usize) -> u32
+    requires { ⌜ (i + 1) * 16 ≤ length (now book) ⌝ }
+    ensures { λ r. ⌜ r ≡ keyAt (now (book .entry)) i ⌝ }
 {
-    x as u32
+    let word = record::big4(book, i * record::SIZE + 4);
+    if record::byte(book, i, 5) < 128 {
+        return word;
+    }
+    word - 8388608
 }
 
 // Record i as a test by function f.
@@ -26,14 +30,10 @@ fn test_at(book: &[u8], i: usize, f: usize) -> Test
     requires { ⌜ (i + 1) * 16 ≤ length (now book) ⌝ }
     ensures { λ r. ⌜ r ≡ testAt (now (book .entry)) i f ⌝ }
 {
-    let category = wide(record::byte(book, i, 4));
-    let kind = wide(record::byte(book, i, 5));
-    let high = wide(record::byte(book, i, 6));
-    let low = wide(record::byte(book, i, 7));
     Test {
         function: value::function_of(f),
-        must: 127 < kind,
-        key: category * 16777216 + kind % 128 * 65536 + high * 256 + low,
+        must: 127 < record::byte(book, i, 5),
+        key: key_at(book, i),
         literal: record::big8(book, i * record::SIZE + 8),
     }
 }

@@ -1,46 +1,33 @@
-use Rattle.judge.proofs.Laws.{accepts}
-use mathlib.Core.Path.{sym, _∙_}
-use borrow.Author.Needs.{needs}
+use mathlib.Core.Path.{sym}
 use native.Mathlib.Omega.{arith}
-use borrow.Author.Tests.{lt-ltb, le-ltb}
-use Rattle.judge.specs.Judge.{judgeRecords}
+use borrow.Author.Needs.{needs}
 use Rattle.judge.proofs.judge_records.Statement.{statement}
 use Rattle.judge.proofs.judge_records.Tie as tie
+use Rattle.judge.proofs.judge_records.Reads as reads
+use Rattle.judge.proofs.judge_records.Lts as lts
+use Rattle.judge.proofs.grammar.obligations.Reads as obligations-reads
+use Rattle.judge.proofs.judge_lines.Reads as judge-lines-reads
 
-first-field-requires : tie.Need-first-field-requires
-first-field-requires c κs = omega arith
+-- src/lib.rt:291:9
+obligations-requires : tie.Need-obligations-requires
+obligations-requires c κs = search needs
 
-add-bad-field : tie.Need-add-bad-field
-add-bad-field c = omega arith
+-- src/lib.rt:293:9
+judge-lines-requires : tie.Need-judge-lines-requires
+judge-lines-requires c κs = search needs
 
+-- src/lib.rt:293:9
 returns : tie.Need-returns
-unfolding judgeRecords
-returns c = rw (← c .before .before .first-field .ensures .0, lt-ltb _ _ (c .before .if1 .taken), c .bad-field .ensures)
+returns c = search needs
 
-first-place-requires : tie.Need-first-place-requires
-first-place-requires c κs = (c .before .before .before .pre .0, c .before .before .before .pre .1, sym (c .before .first-field .ensures .0) ∙ omega arith)
+-- src/lib.rt:297:22
+sub-t5 : tie.Need-sub-t5
+sub-t5 c = search needs
 
-add-place-refusal : tie.Need-add-place-refusal
-add-place-refusal c = omega arith
-
+-- src/lib.rt:287:1
 returns-2 : tie.Need-returns-2
-unfolding judgeRecords
-returns-2 c = rw (← c .before .before .before .before .first-field .ensures .0, le-ltb _ _ (c .before .before .before .if1 .left), ← c .before .before .first-place .ensures .place, lt-ltb _ _ (c .before .if2 .taken), c .place-refusal .ensures)
-
-returns-3 : tie.Need-returns-3
-unfolding judgeRecords
-returns-3 c = rw (← c .before .before .before .first-field .ensures .0, le-ltb _ _ (c .before .before .if1 .left), ← c .before .first-place .ensures .place, le-ltb _ _ (c .if2 .left)) (accepts _ (c .before .before .before .first-field .ensures .2) (omega arith))
+returns-2 c = sym (c .before .obligations .ensures (omega arith))
 
 pub judge-records-spec : {M : Type 1} → statement M
 judge-records-spec =
-    tie.close
-    (tie.spec
-    first-field-requires
-    add-bad-field
-    (λ c κs. search needs)
-    returns
-    first-place-requires
-    add-place-refusal
-    (λ c κs. search needs)
-    returns-2
-    returns-3)
+    tie.close (tie.spec obligations-requires judge-lines-requires returns sub-t5 returns-2)
