@@ -88,7 +88,7 @@ fn section_row(book: &[u8], from: usize, end: usize, depth: usize) -> usize
     i
 }
 
-// The same. Most children begin with none, which needs no call.
+// The same of a rule's children, which mostly begin with none: that needs no call.
 fn sections(book: &[u8], from: usize, end: usize, depth: usize) -> usize
     requires { ⌜ (from ≤ end) × (end * size ≤ length (now book)) × (depth ≤ mostDepth) ⌝ }
     ensures { λ r. ⌜ (0 < r → (from ≤ r) × (r ≤ end)
@@ -215,7 +215,7 @@ fn policy_parts(book: &[u8], from: usize, end: usize, depth: usize) -> usize
     requires { ⌜ (from ≤ end) × (end * size ≤ length (now book)) × (depth ≤ mostDepth) ⌝ }
     ensures { λ r. ⌜ (r ≤ end + 1) × (0 < r → (gc pc : ℕ) → Row (now (book .entry)) from end end depth 2 gc pc 0 6 (r - 1)) ⌝ }
 {
-    let first = sections(book, from, end, depth);
+    let first = section_row(book, from, end, depth);
     if first == 0 {
         return 0;
     }
@@ -241,7 +241,7 @@ fn party(book: &[u8], i: usize, top: usize, depth: usize) -> usize
     if !kept::is_set(book, i) {
         return 0;
     }
-    let mut at = sections(book, i + 1, next, depth);
+    let mut at = section_row(book, i + 1, next, depth);
     if at == 0 {
         return 0;
     }

@@ -19,7 +19,7 @@ use Rattle.judge.proofs.kept.is_policy.Reads as is-policy-reads
 use Rattle.judge.proofs.kept.is_set.Reads as is-set-reads
 use Rattle.judge.proofs.grammar.own.Reads as own-reads
 use Rattle.judge.proofs.grammar.policy_parts.Reads as policy-parts-reads
-use Rattle.judge.proofs.grammar.sections.Reads as sections-reads
+use Rattle.judge.proofs.grammar.section_row.Reads as section-row-reads
 use Rattle.record.proofs.byte.Reads as byte-reads
 use Rattle.record.proofs.span.Reads as span-reads
 use Rattle.judge.proofs.grammar.+party.{statement}
@@ -42,7 +42,7 @@ abbrev party-μ-loop : party-lts.MeasureT-loop
 party-μ-loop book i top depth next at₀ due₀ at due = next - at
 
 abbrev party-calls : ℕ → party-lts.Claims
-party-calls t = (span-reads.Asked, span-reads.Learnt, is-policy-reads.Asked, is-policy-reads.Learnt, policy-parts-reads.Asked, policy-parts-reads.Learnt, is-set-reads.Asked, is-set-reads.Learnt, sections-reads.Asked, sections-reads.Learnt, byte-reads.Asked, byte-reads.Learnt, own-reads.Asked, own-reads.Learnt, party-below t, party.Post)
+party-calls t = (span-reads.Asked, span-reads.Learnt, is-policy-reads.Asked, is-policy-reads.Learnt, policy-parts-reads.Asked, policy-parts-reads.Learnt, is-set-reads.Asked, is-set-reads.Learnt, section-row-reads.Asked, section-row-reads.Learnt, byte-reads.Asked, byte-reads.Learnt, own-reads.Asked, own-reads.Learnt, party-below t, party.Post)
 
 party-span-requires : (t : ℕ) → party-lts.Need-span-requires (party-calls t) (party-at t) party.Post party-Inv-loop party-μ-loop
 party-span-requires t c κs = search needs
@@ -71,17 +71,17 @@ party-is-set-requires t c κs = search needs
 party-returns-3 : (t : ℕ) → party-lts.Need-returns-3 (party-calls t) (party-at t) party.Post party-Inv-loop party-μ-loop
 party-returns-3 t c = (omega arith, λ z. absurd (omega arith))
 
-party-add-sections : (t : ℕ) → party-lts.Need-add-sections (party-calls t) (party-at t) party.Post party-Inv-loop party-μ-loop
-party-add-sections t c = search needs
+party-add-section-row : (t : ℕ) → party-lts.Need-add-section-row (party-calls t) (party-at t) party.Post party-Inv-loop party-μ-loop
+party-add-section-row t c = search needs
 
-party-sections-requires : (t : ℕ) → party-lts.Need-sections-requires (party-calls t) (party-at t) party.Post party-Inv-loop party-μ-loop
-party-sections-requires t c κs = let s = fit-span _ _ (c .before .is-set .ensures (not-false _ (c .if3 .left))) in (omega (arith, s, c .before .before .before .before .before .span .ensures .0), omega arith, omega arith)
+party-section-row-requires : (t : ℕ) → party-lts.Need-section-row-requires (party-calls t) (party-at t) party.Post party-Inv-loop party-μ-loop
+party-section-row-requires t c κs = let s = fit-span _ _ (c .before .is-set .ensures (not-false _ (c .if3 .left))) in (omega (arith, s, c .before .before .before .before .before .span .ensures .0), omega arith, omega arith)
 
 party-returns-4 : (t : ℕ) → party-lts.Need-returns-4 (party-calls t) (party-at t) party.Post party-Inv-loop party-μ-loop
 party-returns-4 t c = (omega arith, λ z. absurd (omega arith))
 
 party-loop-holds : (t : ℕ) → party-lts.Need-loop-holds (party-calls t) (party-at t) party.Post party-Inv-loop party-μ-loop
-party-loop-holds t c = let s = c .before .sections .ensures (omega arith) in (omega (arith, s .1), omega (arith, s .0), omega arith, λ gc pc. row-then _ (s .2 1 gc pc refl) (row-none _ refl (omega arith)))
+party-loop-holds t c = let s = c .before .section-row .ensures (omega arith) in (omega (arith, s .1), omega (arith, s .0), omega arith, λ gc pc. row-then _ (s .2 1 gc pc refl) (row-none _ refl (omega arith)))
 
 party-byte-requires : (t : ℕ) → party-lts.Need-byte-requires (party-calls t) (party-at t) party.Post party-Inv-loop party-μ-loop
 party-byte-requires t c κs = search needs
@@ -143,8 +143,8 @@ pub +party-spec : {M : Type 1} → statement M
     (party-returns-2 t)
     (party-is-set-requires t)
     (party-returns-3 t)
-    (party-add-sections t)
-    (party-sections-requires t)
+    (party-add-section-row t)
+    (party-section-row-requires t)
     (party-returns-4 t)
     (party-loop-holds t)
     (party-byte-requires t)
