@@ -56,9 +56,9 @@ module _ (p : List ℕ) (es : List Entry) (g : Bags) (same : length p ≡ length
   unfolding flatStep flatOf
   flat-step s a w = packed-step p g s long a (may s w) ∙ go (flatOf s) w
     where
-      go : (b : Flat) → Going es b → flatAfter (fetch p (b .head .at)) (sees g (length p) (fetch p (b .head .at)) b) b
-          ≡ if (b .head .over) b (if (ltb (b .head .at) (length es)) (flatAfter (fetch p (b .head .at)) (sees g (length es) (fetch p (b .head .at)) b) b) b)
-      go b w = rw (w .running, lt-ltb (b .head .at) (length es) (w .inside), same) refl
+      go : (b : Flat) → Going es b → flatAfter (fetch p (b .head .at)) (sees g (fetch p (b .head .at)) b) b
+          ≡ if (b .head .over) b (if (ltb (b .head .at) (length es)) (flatAfter (fetch p (b .head .at)) (sees g (fetch p (b .head .at)) b) b) b)
+      go b w = rw (w .running, lt-ltb (b .head .at) (length es) (w .inside)) refl
 
   -- n steps that are on the way
   pub ran : (n : ℕ) (s : State) → allowed (s .head) ≡ true → ((k : ℕ) → k < n → Going es (flatRun g (fetch p) (length es) k (flatOf s)))

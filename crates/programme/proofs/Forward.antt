@@ -66,7 +66,7 @@ past-far false n r = omega arith
 
 -- a step leads no further than its entry says
 pub inside : (e : Entry) (g : Bags) (long : ℕ) (h : Head) (l m : Level) (f b : Frame) → h .at + suc (reach e) ≤ long
-    → h .at + suc (extra e + core g long h e l m f b .next .jump) ≤ long
+    → h .at + suc (extra e + core g h e l m f b .next .jump) ≤ long
 unfolding core
 inside (begin al c) g long h l m f b w = w
 inside (match t k c s i j x) g long h l m f b w = let z = match-far (andOf (h .ands) (matchOf g t)) k c s i j x (h .ors) (h .sections) (h .reg) in omega (arith, w, z)
@@ -109,27 +109,27 @@ inside finish g long h l m f b w = go (both (is (h .reg) Deny) (ltb (h .permits)
     go false = w
 
 -- what becomes of the obligations is within reach
-pub placed-core : (e : Entry) (g : Bags) (long : ℕ) (h : Head) (l m : Level) (f b : Frame) → fits e ≡ true
-    → Placed (core g long h e l m f b .placing) (h .permits) (h .denies)
+pub placed-core : (e : Entry) (g : Bags) (h : Head) (l m : Level) (f b : Frame) → fits e ≡ true
+    → Placed (core g h e l m f b .placing) (h .permits) (h .denies)
 unfolding core
-placed-core (begin al c) g long h l m f b w = leb-true c 1000 w
-placed-core (match t k c s i j x) g long h l m f b w = tt
-placed-core further g long h l m f b w = tt
-placed-core (opens op) g long h l m f b w = tt
-placed-core (compare t n) g long h l m f b w = go (h .nest)
+placed-core (begin al c) g h l m f b w = leb-true c 1000 w
+placed-core (match t k c s i j x) g h l m f b w = tt
+placed-core further g h l m f b w = tt
+placed-core (opens op) g h l m f b w = tt
+placed-core (compare t n) g h l m f b w = go (h .nest)
   where
     go : (k : ℕ) → Placed (tell (comparisonOf g t) n k l (h .reg) .placing) (h .permits) (h .denies)
     go zero = tt
     go (suc k) = tt
-placed-core (close n) g long h l m f b w = go (h .nest)
+placed-core (close n) g h l m f b w = go (h .nest)
   where
     go : (k : ℕ) → Placed (closed n k l m (h .reg) .placing) (h .permits) (h .denies)
     go zero = tt
     go (suc zero) = tt
     go (suc (suc k)) = tt
-placed-core (rule e n) g long h l m f b w = tt
-placed-core (enter al) g long h l m f b w = tt
-placed-core (applies n) g long h l m f b w = go (b .acc)
+placed-core (rule e n) g h l m f b w = tt
+placed-core (enter al) g h l m f b w = tt
+placed-core (applies n) g h l m f b w = go (b .acc)
   where
     go : (a : Acc) → Placed (noted a b n (h .reg) .placing) (h .permits) (h .denies)
     go (Ranked k) = tt
@@ -137,21 +137,21 @@ placed-core (applies n) g long h l m f b w = go (b .acc)
     go Pending = tt
     go Two = tt
     go (One d) = tt
-placed-core (conclude n) g long h l m f b w = go (result (f .alg) (f .acc))
+placed-core (conclude n) g h l m f b w = go (result (f .alg) (f .acc))
   where
     go : (d : Decision) → Placed (concluded d n (f .permits) (f .denies) .placing) (h .permits) (h .denies)
     go Permit = tt
     go Deny = tt
     go NotApplicable = tt
     go Indeterminate = tt
-placed-core (oblige e n) g long h l m f b w = go e (is (h .reg) (decisionOf e))
+placed-core (oblige e n) g h l m f b w = go e (is (h .reg) (decisionOf e))
   where
     go : (e : Effect) (x : Bool) → Placed (pushed e x n) (h .permits) (h .denies)
     go e false = tt
     go Permits true = ltb-true n 65536 w
     go Denies true = ltb-true n 65536 w
-placed-core (leave n) g long h l m f b w = tt
-placed-core finish g long h l m f b w = go (is (h .reg) Deny) (ltb (h .permits) (h .denies)) refl
+placed-core (leave n) g h l m f b w = tt
+placed-core finish g h l m f b w = go (is (h .reg) Deny) (ltb (h .permits) (h .denies)) refl
   where
     go : (y x : Bool) → ltb (h .permits) (h .denies) ≡ x → Placed (finished (both y x) h .placing) (h .permits) (h .denies)
     go true true z = let k = ltb-true (h .permits) (h .denies) z in omega (arith, k)
@@ -219,20 +219,20 @@ lawful-parts long at e w = let z = both-parts (fits e) (leb (at + suc (reach e))
 
 -- after a lawful step the place is further on, inside, and the first number is in its range
 pub forward : (e : Entry) (g : Bags) (long : ℕ) (h : Head) (l m : Level) (f b : Frame) → long ≤ 8008 → Ranged h → lawful long (h .at) e ≡ true
-    → (h .at < headAfter h e (core g long h e l m f b) .at) × (headAfter h e (core g long h e l m f b) .at ≤ long) × Ranged (headAfter h e (core g long h e l m f b))
+    → (h .at < headAfter h e (core g h e l m f b) .at) × (headAfter h e (core g h e l m f b) .at ≤ long) × Ranged (headAfter h e (core g h e l m f b))
 unfolding headAfter
 forward e g long h l m f b s r w =
     let z = lawful-parts long (h .at) e w in
     let i = inside e g long h l m f b (z .1) in
-    let t = placed-core e g long h l m f b (z .0) in (
+    let t = placed-core e g h l m f b (z .0) in (
       omega arith,
       i,
       record {
         at = omega (arith, i, s);
-        depth = depth-range (core g long h e l m f b .frames) (h .depth) (r .depth);
-        nest = nest-range (core g long h e l m f b .levels) (h .nest) (r .nest);
-        permits = permits-range h (core g long h e l m f b .placing) t r;
-        stacks = stacks-range h (core g long h e l m f b .placing) t r;
+        depth = depth-range (core g h e l m f b .frames) (h .depth) (r .depth);
+        nest = nest-range (core g h e l m f b .levels) (h .nest) (r .nest);
+        permits = permits-range h (core g h e l m f b .placing) t r;
+        stacks = stacks-range h (core g h e l m f b .placing) t r;
       },
     )
 
@@ -244,18 +244,18 @@ module _ (p : List ℕ) (g : Bags) (s : State) (long : length p ≤ 8008) (ok : 
   abbrev pub met : Entry
   met = fetch p (before .at)
 
-  pub step-forward : (before .at < headAfter before met (seen p g s before met) .at) × (headAfter before met (seen p g s before met) .at ≤ length p)
-      × Ranged (headAfter before met (seen p g s before met))
+  pub step-forward : (before .at < headAfter before met (seen g s before met) .at) × (headAfter before met (seen g s before met) .at ≤ length p)
+      × Ranged (headAfter before met (seen g s before met))
   unfolding seen mayStep
   step-forward = forward met g (length p) before _ _ _ _ long (ranged (s .head) ok) may
 
   pub still-allowed : allowed (stepOf p g s .head) ≡ true
   unfolding stepOf after
-  still-allowed = allowed-pack (headAfter before met (seen p g s before met)) (step-forward .2)
+  still-allowed = allowed-pack (headAfter before met (seen g s before met)) (step-forward .2)
 
-  pub head-after : unpackOf (stepOf p g s .head) ≡ headAfter before met (seen p g s before met)
+  pub head-after : unpackOf (stepOf p g s .head) ≡ headAfter before met (seen g s before met)
   unfolding stepOf after
-  head-after = unpack-pack (headAfter before met (seen p g s before met)) (held (headAfter before met (seen p g s before met)) (step-forward .2))
+  head-after = unpack-pack (headAfter before met (seen g s before met)) (held (headAfter before met (seen g s before met)) (step-forward .2))
 
   pub further-on : (before .at < unpackOf (stepOf p g s .head) .at) × (unpackOf (stepOf p g s .head) .at ≤ length p)
   further-on = rw head-after (step-forward .0, step-forward .1)

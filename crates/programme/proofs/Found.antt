@@ -26,11 +26,11 @@ same-if false v w k n e f = refl
 
 module _ (g : Bags) (long : ℕ) (h : Head) (e : Entry) (l m : Level) (f b : Frame) where
   pub met : (r : Met) (ok : Bool) (v : Move) (k : ℕ) → r ≡ metIf ok v k → ok ≡ lawful long (h .at) e
-      → v ≡ moveOf (core g long h e l m f b) → k ≡ extra e → r ≡ meets g long h e l m f b
+      → v ≡ moveOf (core g h e l m f b) → k ≡ extra e → r ≡ meets g long h e l m f b
   unfolding meets
-  met r ok v k a o c d = rw (a, o) (same-if (lawful long (h .at) e) v (moveOf (core g long h e l m f b)) k (extra e) c d)
+  met r ok v k a o c d = rw (a, o) (same-if (lawful long (h .at) e) v (moveOf (core g h e l m f b)) k (extra e) c d)
 
-  pub does : (v : Move) (k : ℕ) → lawful long (h .at) e ≡ true → v ≡ moveOf (core g long h e l m f b) → k ≡ extra e
+  pub does : (v : Move) (k : ℕ) → lawful long (h .at) e ≡ true → v ≡ moveOf (core g h e l m f b) → k ≡ extra e
       → Does v k ≡ meets g long h e l m f b
   does v k o c d = met (Does v k) true v k refl (sym o) c d
 

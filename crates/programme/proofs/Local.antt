@@ -32,21 +32,21 @@ use Rattle.programme.specs.Step.{inWords, after, seen, mayStep, stepOf}
 use Rattle.programme.specs.Local.{keyOf, headOf, entryAt, SameSight, outOf, DependsOnNoMore, ChangesNoMore, Obliges, PutsNoMore}
 
 -- one bag
-core-bag : (e : Entry) (g h : Bags) → g (keyOf e) ≡ h (keyOf e) → (long : ℕ) (x : Head) (l m : Level) (f b : Frame) → core g long x e l m f b ≡ core h long x e l m f b
+core-bag : (e : Entry) (g h : Bags) → g (keyOf e) ≡ h (keyOf e) → (x : Head) (l m : Level) (f b : Frame) → core g x e l m f b ≡ core h x e l m f b
 unfolding core matchOf comparisonOf
-core-bag (begin al c) g h e long x l m f b = refl
-core-bag (match t k c s i j y) g h e long x l m f b = rw e refl
-core-bag further g h e long x l m f b = refl
-core-bag (opens op) g h e long x l m f b = refl
-core-bag (compare t n) g h e long x l m f b = rw e refl
-core-bag (close n) g h e long x l m f b = refl
-core-bag (rule y n) g h e long x l m f b = refl
-core-bag (enter al) g h e long x l m f b = refl
-core-bag (applies n) g h e long x l m f b = refl
-core-bag (conclude n) g h e long x l m f b = refl
-core-bag (oblige y n) g h e long x l m f b = refl
-core-bag (leave n) g h e long x l m f b = refl
-core-bag finish g h e long x l m f b = refl
+core-bag (begin al c) g h e x l m f b = refl
+core-bag (match t k c s i j y) g h e x l m f b = rw e refl
+core-bag further g h e x l m f b = refl
+core-bag (opens op) g h e x l m f b = refl
+core-bag (compare t n) g h e x l m f b = rw e refl
+core-bag (close n) g h e x l m f b = refl
+core-bag (rule y n) g h e x l m f b = refl
+core-bag (enter al) g h e x l m f b = refl
+core-bag (applies n) g h e x l m f b = refl
+core-bag (conclude n) g h e x l m f b = refl
+core-bag (oblige y n) g h e x l m f b = refl
+core-bag (leave n) g h e x l m f b = refl
+core-bag finish g h e x l m f b = refl
 
 same-entry : (p q : List ℕ) (g h : Bags) (s t : State) → SameSight p q g h s t → entryAt p s ≡ entryAt q t
 unfolding fetch
@@ -55,8 +55,8 @@ same-entry p q g h s t w = rw (← w .head, w .entry, w .second, w .third) refl
 same-out : (p q : List ℕ) (g h : Bags) (s t : State) → SameSight p q g h s t → outOf p g s ≡ outOf q h t
 unfolding seen
 same-out p q g h s t w =
-    rw (← same-entry p q g h s t w, ← w .head, w .long, w .frame, w .frame-below, w .level, w .level-below)
-    (core-bag (entryAt p s) g h (w .bag) _ _ _ _ _ _)
+    rw (← same-entry p q g h s t w, ← w .head, w .frame, w .frame-below, w .level, w .level-below)
+    (core-bag (entryAt p s) g h (w .bag) _ _ _ _ _)
 
 pub depends-on-no-more : DependsOnNoMore
 unfolding mayStep stepOf after
@@ -88,26 +88,26 @@ Modest e (FallBoth h k) = Unit
 Modest e (Cut c) = Unit
 Modest e (Down n) = n ≤ 2
 
-modest-core : (e : Entry) (g : Bags) (long : ℕ) (h : Head) (l m : Level) (f b : Frame) → Modest e (core g long h e l m f b .placing)
+modest-core : (e : Entry) (g : Bags) (h : Head) (l m : Level) (f b : Frame) → Modest e (core g h e l m f b .placing)
 unfolding core Modest Obliges
-modest-core (begin al c) g long h l m f b = tt
-modest-core (match t k c s i j y) g long h l m f b = tt
-modest-core further g long h l m f b = tt
-modest-core (opens op) g long h l m f b = tt
-modest-core (compare t n) g long h l m f b = go (h .nest)
+modest-core (begin al c) g h l m f b = tt
+modest-core (match t k c s i j y) g h l m f b = tt
+modest-core further g h l m f b = tt
+modest-core (opens op) g h l m f b = tt
+modest-core (compare t n) g h l m f b = go (h .nest)
   where
     go : (k : ℕ) → Modest (compare t n) (tell (comparisonOf g t) n k l (h .reg) .placing)
     go zero = tt
     go (suc k) = tt
-modest-core (close n) g long h l m f b = go (h .nest)
+modest-core (close n) g h l m f b = go (h .nest)
   where
     go : (k : ℕ) → Modest (close n) (closed n k l m (h .reg) .placing)
     go zero = tt
     go (suc zero) = tt
     go (suc (suc k)) = tt
-modest-core (rule y n) g long h l m f b = tt
-modest-core (enter al) g long h l m f b = tt
-modest-core (applies n) g long h l m f b = go (b .acc)
+modest-core (rule y n) g h l m f b = tt
+modest-core (enter al) g h l m f b = tt
+modest-core (applies n) g h l m f b = go (b .acc)
   where
     go : (a : Acc) → Modest (applies n) (noted a b n (h .reg) .placing)
     go (Ranked k) = tt
@@ -115,21 +115,21 @@ modest-core (applies n) g long h l m f b = go (b .acc)
     go Pending = tt
     go Two = tt
     go (One d) = tt
-modest-core (conclude n) g long h l m f b = go (result (f .alg) (f .acc))
+modest-core (conclude n) g h l m f b = go (result (f .alg) (f .acc))
   where
     go : (d : Decision) → Modest (conclude n) (concluded d n (f .permits) (f .denies) .placing)
     go Permit = tt
     go Deny = tt
     go NotApplicable = tt
     go Indeterminate = tt
-modest-core (oblige y n) g long h l m f b = go y (is (h .reg) (decisionOf y))
+modest-core (oblige y n) g h l m f b = go y (is (h .reg) (decisionOf y))
   where
     go : (e : Effect) (x : Bool) → Modest (oblige y n) (pushed e x n)
     go e false = tt
     go Permits true = refl
     go Denies true = refl
-modest-core (leave n) g long h l m f b = tt
-modest-core finish g long h l m f b = go (both (is (h .reg) Deny) (ltb (h .permits) (h .denies)))
+modest-core (leave n) g h l m f b = tt
+modest-core finish g h l m f b = go (both (is (h .reg) Deny) (ltb (h .permits) (h .denies)))
   where
     go : (x : Bool) → Modest finish (finished x h .placing)
     go true = omega arith
@@ -167,7 +167,7 @@ unfolding stepOf after seen
 changes-no-more p g s k = (
   λ a b c. stack-other roomF (inWords frameWord (outOf p g s .frames)) (headOf s .depth) (s .frames) k a b c,
   λ a b c. stack-other roomL (inWords levelWord (outOf p g s .levels)) (headOf s .nest) (s .levels) k a b c,
-  λ a b c. places-other (entryAt p s) (outOf p g s .placing) (modest-core (entryAt p s) g (length p) (headOf s) _ _ _ _) (headOf s .cut) (headOf s .permits) (headOf s .denies) (s .places) k a b c,
+  λ a b c. places-other (entryAt p s) (outOf p g s .placing) (modest-core (entryAt p s) g (headOf s) _ _ _ _) (headOf s .cut) (headOf s .permits) (headOf s .denies) (s .places) k a b c,
 )
 
 -- one store: what was stored, or what stood
@@ -238,4 +238,4 @@ places-put e (Down n) w c p d xs k = copied n e c p xs k w
 pub puts-no-more : PutsNoMore
 unfolding stepOf after seen Where
 puts-no-more p g s k =
-    places-put (entryAt p s) (outOf p g s .placing) (modest-core (entryAt p s) g (length p) (headOf s) _ _ _ _) (headOf s .cut) (headOf s .permits) (headOf s .denies) (s .places) k
+    places-put (entryAt p s) (outOf p g s .placing) (modest-core (entryAt p s) g (headOf s) _ _ _ _) (headOf s .cut) (headOf s .permits) (headOf s .denies) (s .places) k

@@ -57,7 +57,7 @@ module _ (p : List ℕ) (g : Bags) (s : State) where
   entry = fetch p (heads .at)
 
   abbrev outcome : Out
-  outcome = seen p g s heads entry
+  outcome = seen g s heads entry
 
   module _ (h : Head) (i j : ℕ) (r : Met) (u : h ≡ unpackOf (s .head)) (d : i ≡ h .depth - 1) (n : j ≡ h .nest - 1)
       (q : r ≡ meets g (length p) h (fetch p (h .at)) (levelOf (getD (s .levels) (h .nest) 0)) (levelOf (getD (s .levels) j 0))
@@ -81,7 +81,7 @@ module _ (p : List ℕ) (g : Bags) (s : State) where
 
       placed : Placed (outcome .placing) (heads .permits) (heads .denies)
       unfolding seen mayStep
-      placed = placed-core entry g (length p) heads _ _ _ _ (lawful-parts (length p) (heads .at) entry (found .0) .0)
+      placed = placed-core entry g heads _ _ _ _ (lawful-parts (length p) (heads .at) entry (found .0) .0)
 
       pub step-needs : Ranged h × Ranged (headWith h further m) × Placed (m .placing) (h .permits) (h .denies)
       step-needs = rw (u, found .1, found .2, with-is heads entry outcome) (ranged (s .head) a, after-ranged, placed)

@@ -157,25 +157,25 @@ abbrev pub finished : Bool → Head → Out
 finished true h = ending h (leb (h .denies) (h .permits + atOnce)) (Down (min atOnce (h .denies - h .permits)))
 finished false h = ending h true Rest
 
--- the core of a step, by the programme's length, the first number, the entry, the levels on top and below, the frames on top and below
-unfoldable pub core : Bags → ℕ → Head → Entry → Level → Level → Frame → Frame → Out
-core g long h (begin al c) l m f b = out (clear 0 Permit) keep (push (record { alg = al; acc = start al; permits = 0; denies = 0 })) (Cut c)
-core g long h (match t k c s i j x) l m f b =
+-- the core of a step, by the first number, the entry, the levels on top and below, the frames on top and below
+unfoldable pub core : Bags → Head → Entry → Level → Level → Frame → Frame → Out
+core g h (begin al c) l m f b = out (clear 0 Permit) keep (push (record { alg = al; acc = start al; permits = 0; denies = 0 })) (Cut c)
+core g h (match t k c s i j x) l m f b =
     out (matchDone (andOf (h .ands) (matchOf g t)) k c s i j x (h .ors) (h .sections) (h .reg)) keep keep Rest
-core g long h further l m f b = out (clear 0 (h .reg)) keep keep Rest
-core g long h (opens op) l m f b = out (next 0 (h .reg) (h .ands) (h .ors) (h .sections)) (push (record { op = op; val = startOf op })) keep Rest
-core g long h (compare t n) l m f b = tell (comparisonOf g t) n (h .nest) l (h .reg)
-core g long h (close n) l m f b = closed n (h .nest) l m (h .reg)
-core g long h (rule e n) l m f b =
+core g h further l m f b = out (clear 0 (h .reg)) keep keep Rest
+core g h (opens op) l m f b = out (next 0 (h .reg) (h .ands) (h .ors) (h .sections)) (push (record { op = op; val = startOf op })) keep Rest
+core g h (compare t n) l m f b = tell (comparisonOf g t) n (h .nest) l (h .reg)
+core g h (close n) l m f b = closed n (h .nest) l m (h .reg)
+core g h (rule e n) l m f b =
     let a = absorb (f .alg) (f .acc) e (ruled e (h .reg)) in
     out (past (settled (f .alg) a) n Permit) keep (swap (put f a)) Rest
-core g long h (enter al) l m f b =
+core g h (enter al) l m f b =
     out (next 0 Permit (h .ands) (h .ors) (h .sections)) keep
     (push (record { alg = al; acc = start al; permits = h .permits; denies = h .denies })) Rest
-core g long h (applies n) l m f b = noted (b .acc) b n (h .reg)
-core g long h (conclude n) l m f b = concluded (result (f .alg) (f .acc)) n (f .permits) (f .denies)
-core g long h (oblige e n) l m f b = out (clear 0 (h .reg)) keep keep (pushed e (is (h .reg) (decisionOf e)) n)
-core g long h (leave n) l m f b =
+core g h (applies n) l m f b = noted (b .acc) b n (h .reg)
+core g h (conclude n) l m f b = concluded (result (f .alg) (f .acc)) n (f .permits) (f .denies)
+core g h (oblige e n) l m f b = out (clear 0 (h .reg)) keep keep (pushed e (is (h .reg) (decisionOf e)) n)
+core g h (leave n) l m f b =
     let a = absorb (b .alg) (b .acc) Permits (h .reg) in
     out (past (settled (b .alg) a) n Permit) keep (back (put b a)) Rest
-core g long h finish l m f b = finished (both (is (h .reg) Deny) (ltb (h .permits) (h .denies))) h
+core g h finish l m f b = finished (both (is (h .reg) Deny) (ltb (h .permits) (h .denies))) h

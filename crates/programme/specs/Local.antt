@@ -51,7 +51,7 @@ pub record SameSight (p q : List ℕ) (g h : Bags) (s t : State) : Type 0 where
 
 -- what a step does, before it is carried out
 abbrev pub outOf : List ℕ → Bags → State → Out
-outOf p g s = seen p g s (headOf s) (entryAt p s)
+outOf p g s = seen g s (headOf s) (entryAt p s)
 
 -- it depends on no more: whether it may be taken, what it does, and the first number that it leaves
 abbrev pub DependsOnNoMore : Type 0

@@ -70,7 +70,7 @@ abbrev pub metIf : Bool → Move → ℕ → Met
 metIf ok m k = if ok (Does m k) Outside
 
 unfoldable pub meets : Bags → ℕ → Head → Entry → Level → Level → Frame → Frame → Met
-meets g long h e l m f b = metIf (lawful long (h .at) e) (moveOf (core g long h e l m f b)) (extra e)
+meets g long h e l m f b = metIf (lawful long (h .at) e) (moveOf (core g h e l m f b)) (extra e)
 
 -- what becomes of the obligations is within reach, where so many stand on each stack: a number fits its place, a cut the places, and no more are
 -- brought down than there are

@@ -51,9 +51,9 @@ after h e x s = record {
 }
 
 -- what a step sees
-unfoldable pub seen : List ℕ → Bags → State → Head → Entry → Out
-seen p g s h e =
-    core g (length p) h e
+unfoldable pub seen : Bags → State → Head → Entry → Out
+seen g s h e =
+    core g h e
     (levelOf (getD (s .levels) (h .nest) 0)) (levelOf (getD (s .levels) (h .nest - 1) 0))
     (frameOf (getD (s .frames) (h .depth) 0)) (frameOf (getD (s .frames) (h .depth - 1) 0))
 
@@ -62,7 +62,7 @@ unfoldable pub mayStep : List ℕ → State → Bool
 mayStep p s = let h = unpackOf (s .head) in lawful (length p) (h .at) (fetch p (h .at))
 
 unfoldable pub stepOf : List ℕ → Bags → State → State
-stepOf p g s = let h = unpackOf (s .head) in let e = fetch p (h .at) in after h e (seen p g s h e) s
+stepOf p g s = let h = unpackOf (s .head) in let e = fetch p (h .at) in after h e (seen g s h e) s
 
 -- the first number says whether the run is finished, with which decision and how many obligations
 unfoldable pub isOver : State → Bool

@@ -42,26 +42,26 @@ frame-small : (n : ℕ) → SmallF (frameOf n)
 unfolding frameOf
 frame-small n = (omega arith, omega arith)
 
-core-small : (e : Entry) (g : Bags) (long : ℕ) (h : Head) (l m : Level) (f b : Frame) → (h .permits < 1024) × (h .denies < 1024) → SmallF f → SmallF b → Smalls (core g long h e l m f b .frames)
+core-small : (e : Entry) (g : Bags) (h : Head) (l m : Level) (f b : Frame) → (h .permits < 1024) × (h .denies < 1024) → SmallF f → SmallF b → Smalls (core g h e l m f b .frames)
 unfolding core Smalls
-core-small (begin al c) g long h l m f b s u v = (omega arith, omega arith)
-core-small (match t k c w i j x) g long h l m f b s u v = tt
-core-small further g long h l m f b s u v = tt
-core-small (opens op) g long h l m f b s u v = tt
-core-small (compare t n) g long h l m f b s u v = go (h .nest)
+core-small (begin al c) g h l m f b s u v = (omega arith, omega arith)
+core-small (match t k c w i j x) g h l m f b s u v = tt
+core-small further g h l m f b s u v = tt
+core-small (opens op) g h l m f b s u v = tt
+core-small (compare t n) g h l m f b s u v = go (h .nest)
   where
     go : (k : ℕ) → Smalls (tell (comparisonOf g t) n k l (h .reg) .frames)
     go zero = tt
     go (suc k) = tt
-core-small (close n) g long h l m f b s u v = go (h .nest)
+core-small (close n) g h l m f b s u v = go (h .nest)
   where
     go : (k : ℕ) → Smalls (closed n k l m (h .reg) .frames)
     go zero = tt
     go (suc zero) = tt
     go (suc (suc k)) = tt
-core-small (rule e n) g long h l m f b s u v = u
-core-small (enter al) g long h l m f b s u v = s
-core-small (applies n) g long h l m f b s u v = go (b .acc)
+core-small (rule e n) g h l m f b s u v = u
+core-small (enter al) g h l m f b s u v = s
+core-small (applies n) g h l m f b s u v = go (b .acc)
   where
     go : (a : Acc) → Smalls (noted a b n (h .reg) .frames)
     go (Ranked k) = v
@@ -69,16 +69,16 @@ core-small (applies n) g long h l m f b s u v = go (b .acc)
     go Pending = v
     go Two = v
     go (One d) = v
-core-small (conclude n) g long h l m f b s u v = go (result (f .alg) (f .acc))
+core-small (conclude n) g h l m f b s u v = go (result (f .alg) (f .acc))
   where
     go : (d : Decision) → Smalls (concluded d n (f .permits) (f .denies) .frames)
     go Permit = tt
     go Deny = tt
     go NotApplicable = tt
     go Indeterminate = tt
-core-small (oblige e n) g long h l m f b s u v = tt
-core-small (leave n) g long h l m f b s u v = v
-core-small finish g long h l m f b s u v = go (both (is (h .reg) Deny) (ltb (h .permits) (h .denies)))
+core-small (oblige e n) g h l m f b s u v = tt
+core-small (leave n) g h l m f b s u v = v
+core-small finish g h l m f b s u v = go (both (is (h .reg) Deny) (ltb (h .permits) (h .denies)))
   where
     go : (x : Bool) → Smalls (finished x h .frames)
     go true = tt
@@ -140,9 +140,9 @@ read f d e [] k = e
 read f d e (x ∷ xs) zero = refl
 read f d e (x ∷ xs) (suc k) = read f d e xs k
 
-same-sight : (p : List ℕ) (g : Bags) (s : State) (e : Entry) → seen p g s (unpackOf (s .head)) e ≡ sees g (length p) e (flatOf s)
+same-sight : (g : Bags) (s : State) (e : Entry) → seen g s (unpackOf (s .head)) e ≡ sees g e (flatOf s)
 unfolding seen flatOf
-same-sight p g s e =
+same-sight g s e =
     let h : Head = unpackOf (s .head) in
     rw (
       ← read levelOf ground ground-of (s .levels) (h .nest),
@@ -160,22 +160,22 @@ module _ (p : List ℕ) (g : Bags) (s : State) (long : length p ≤ 8008) (ok : 
   abbrev e : Entry
   e = fetch p (h .at)
 
-  small : Smalls (seen p g s h e .frames)
+  small : Smalls (seen g s h e .frames)
   unfolding seen
   small =
       let r : Ranged h = ranged (s .head) ok in
-      core-small e g (length p) h _ _ _ _ (omega (arith, r .permits), omega (arith, r .stacks)) (frame-small (getD (s .frames) (h .depth) 0)) (frame-small (getD (s .frames) (h .depth - 1) 0))
+      core-small e g h _ _ _ _ (omega (arith, r .permits), omega (arith, r .stacks)) (frame-small (getD (s .frames) (h .depth) 0)) (frame-small (getD (s .frames) (h .depth - 1) 0))
 
-  pub packed-step : flatOf (stepOf p g s) ≡ flatAfter e (sees g (length p) e (flatOf s)) (flatOf s)
+  pub packed-step : flatOf (stepOf p g s) ≡ flatAfter e (sees g e (flatOf s)) (flatOf s)
   unfolding flatOf stepOf after
   packed-step =
       rw (
-        ← same-sight p g s e,
+        ← same-sight g s e,
         heads,
-        stack-map frameOf frameWord roomF (seen p g s h e .frames) (frames-come (seen p g s h e .frames) small) (h .depth) (s .frames),
-        stack-map levelOf levelWord roomL (seen p g s h e .levels) (levels-come (seen p g s h e .levels)) (h .nest) (s .levels),
+        stack-map frameOf frameWord roomF (seen g s h e .frames) (frames-come (seen g s h e .frames) small) (h .depth) (s .frames),
+        stack-map levelOf levelWord roomL (seen g s h e .levels) (levels-come (seen g s h e .levels)) (h .nest) (s .levels),
       )
       refl
     where
-      heads : unpackOf (packOf (headAfter h e (seen p g s h e))) ≡ headAfter h e (seen p g s h e)
+      heads : unpackOf (packOf (headAfter h e (seen g s h e))) ≡ headAfter h e (seen g s h e)
       heads = head-after p g s long ok may

@@ -45,16 +45,16 @@ flatAfter e x b = record {
   places = placesAfter (x .placing) (b .head .cut) (b .head .permits) (b .head .denies) (b .places);
 }
 
-abbrev pub sees : Bags → ℕ → Entry → Flat → Out
-sees g long e b =
-    core g long (b .head) e
+abbrev pub sees : Bags → Entry → Flat → Out
+sees g e b =
+    core g (b .head) e
     (getD (b .levels) (b .head .nest) ground) (getD (b .levels) (b .head .nest - 1) ground)
     (getD (b .frames) (b .head .depth) idle) (getD (b .frames) (b .head .depth - 1) idle)
 
 -- a step; `entry` reads the entry at a place of a programme of so many entries
 unfoldable pub flatStep : Bags → (ℕ → Entry) → ℕ → Flat → Flat
 flatStep g entry long b =
-    if (b .head .over) b (if (ltb (b .head .at) long) (flatAfter (entry (b .head .at)) (sees g long (entry (b .head .at)) b) b) b)
+    if (b .head .over) b (if (ltb (b .head .at) long) (flatAfter (entry (b .head .at)) (sees g (entry (b .head .at)) b) b) b)
 
 unfoldable pub flatRun : Bags → (ℕ → Entry) → ℕ → ℕ → Flat → Flat
 flatRun g entry long zero b = b
