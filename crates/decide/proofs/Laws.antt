@@ -4,15 +4,12 @@ use mathlib.Core.List.{List}
 use Prim.Native.Nat.{ℕ, _≤_}
 use native.Mathlib.Omega.{arith}
 use lib.ListN.{length, take, length-take}
-use lib.Seq.{take-at}
 use Rattle.record.specs.declared.Refusal.{Refusal}
 use Rattle.text.specs.Table.{tab}
 use Rattle.text.specs.Text.{book, request, readOf, byteAt, outputAfter}
-use Rattle.text.specs.declared.Kind.{Kind}
 use Rattle.text.specs.declared.Filled.{Filled}
 use Rattle.text.specs.declared.Filled.the-variants as read
-use Rattle.text.proofs.Laws.{length-tab}
-use Rattle.text.proofs.Accepted.{was-read}
+use Rattle.text.proofs.Accepted.{filled-first}
 use Rattle.line.specs.Line.{decisionLine, refusalLine, placesOf, put}
 use Rattle.line.proofs.Laws.{length-refusal, length-decision, put-found, places-fits}
 use Rattle.meaning.specs.Numbers.{numberOf}
@@ -54,14 +51,6 @@ module _ (b q places : List ℕ) {a : Outcome} {after : List ℕ}
       rw (line-is e)
       (stands (decisionLine (numberOf d) (dutiesOf b q)) l later m (omega (arith, length-decision (numberOf d) (dutiesOf b q))) (rw (puts .1, number) at p) (rw (puts .1, number) at w))
 
--- what was read stands first in its output
-read-first : (f : ℕ → ℕ) (out : List ℕ) (m : ℕ) {a : Filled} {later : List ℕ} → later ≡ outputAfter f a out → a ≡ read.Places m → take m later ≡ tab f m
-unfolding outputAfter
-read-first f out m e p = rw (e, p) (take-at (tab f m) _ m (length-tab f m))
-
-pub read-fits : (k : Kind) (text : List ℕ) (room m : ℕ) {a : Filled} → a ≡ readOf k text room → a ≡ read.Places m → m ≤ room
-read-fits k text room m p q = was-read k text room m (sym p ∙ q) .fits
-
 -- what is printed, by what was read
 module _ (text asked records entries : List ℕ) {a : Filled} (long : length records ≡ 16000) (book-read : a ≡ readOf book text (length records)) where
   after-book : {x : Filled} → a ≡ x → printed text asked ≡ afterBook x text asked
@@ -84,4 +73,4 @@ module _ (text asked records entries : List ℕ) {a : Filled} (long : length rec
 
     pub printed-decided : (m : ℕ) {last : List ℕ} → d ≡ read.Places m → last ≡ outputAfter (byteAt asked) d entries → decidedLine (take n later) (take m last) ≡ printed text asked
     unfolding afterRequest
-    printed-decided m e left = rw (read-first (byteAt text) records n book-left book-is, read-first (byteAt asked) entries m left e) (sym (after-request e))
+    printed-decided m e left = rw (filled-first (byteAt text) records n book-left book-is, filled-first (byteAt asked) entries m left e) (sym (after-request e))

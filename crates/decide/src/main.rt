@@ -6,22 +6,8 @@ use text::Filled;
 ghost use mathlib.Core.Path.{_≡_};
 ghost use Prim.Native.Nat.{_≤_, _*_};
 ghost use lib.ListN.{length, take};
-ghost use Rattle.io.specs.Counts.{Counts};
 ghost use Rattle.record.specs.Bytes.{size, mostRecords, mostEntries};
 ghost use Rattle.decide.specs.Decide.{longest, decidedLine, printed};
-
-// How many bytes of the file came: none if it will not open.
-fn read_file(buffer: &mut [u8]) -> usize
-    ensures { λ r. ⌜ Counts r (now (buffer .exit)) ⌝ }
-{
-    let file = os::open_read(b"BOOK.HEX");
-    if file < 0 {
-        return 0;
-    }
-    let n = io::read_full(file, buffer);
-    libc::close(file);
-    n
-}
 
 // Puts the line of what the records decide first into `out`, and answers its length. `places` is for the work.
 fn outcome_line(book: &[u8], request: &[u8], places: &mut [u16], out: &mut [u8]) -> usize
@@ -68,7 +54,7 @@ fn main() {
     let mut entries = [0u8; 1024];
     let mut places = [0u16; 1000];
     let mut out = [0u8; 4007];
-    let n = read_file(&mut book);
+    let n = file::read_book_file(&mut book);
     let m = io::read_full(STDIN_FILENO, &mut request);
     let k = decided(
         &book[..n],

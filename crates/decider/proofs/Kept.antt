@@ -6,6 +6,7 @@ use mathlib.Core.List.{List, [], _∷_, _++_, append-nil, append-assoc}
 use Prim.Native.Nat.{ℕ}
 use lib.Dec.{ltb}
 use Rattle.record.specs.Choose.{if, both}
+use Rattle.record.proofs.Choose.{both-parts}
 use Rattle.meaning.specs.Meaning.{decisionOf, Child, said, owed, is, combine, hands, handed, binding}
 use Rattle.meaning.specs.declared.Effect.{Effect}
 use Rattle.meaning.specs.declared.Effect.the-variants.{Permits, Denies}
@@ -60,24 +61,20 @@ everyDecision f = both (f Permit) (both (f Deny) (both (f NotApplicable) (f Inde
 everyEffect : (Effect → Bool) → Bool
 everyEffect f = both (f Permits) (f Denies)
 
-both-are : (p q : Bool) → both p q ≡ true → (p ≡ true) × (q ≡ true)
-both-are true q e = (refl, e)
-both-are false q e = (e, cc)
-
 four-are : (p q r s : Bool) → both p (both q (both r s)) ≡ true → (p ≡ true) × (q ≡ true) × (r ≡ true) × (s ≡ true)
 four-are p q r s e =
-    let x = both-are p (both q (both r s)) e in
-    let y = both-are q (both r s) (x .1) in
-    let z = both-are r s (y .1) in
+    let x = both-parts p (both q (both r s)) e in
+    let y = both-parts q (both r s) (x .1) in
+    let z = both-parts r s (y .1) in
     (x .0, y .0, z .0, z .1)
 
 at-rank : (f : Rank → Bool) → everyRank f ≡ true → (r : Rank) → f r ≡ true
 unfolding everyRank
-at-rank f e R0 = both-are (f R0) _ e .0
-at-rank f e R1 = four-are (f R1) (f R2) (f R3) (f R4) (both-are (f R0) (both (f R1) (both (f R2) (both (f R3) (f R4)))) e .1) .0
-at-rank f e R2 = four-are (f R1) (f R2) (f R3) (f R4) (both-are (f R0) (both (f R1) (both (f R2) (both (f R3) (f R4)))) e .1) .1
-at-rank f e R3 = four-are (f R1) (f R2) (f R3) (f R4) (both-are (f R0) (both (f R1) (both (f R2) (both (f R3) (f R4)))) e .1) .2
-at-rank f e R4 = four-are (f R1) (f R2) (f R3) (f R4) (both-are (f R0) (both (f R1) (both (f R2) (both (f R3) (f R4)))) e .1) .3
+at-rank f e R0 = both-parts (f R0) _ e .0
+at-rank f e R1 = four-are (f R1) (f R2) (f R3) (f R4) (both-parts (f R0) (both (f R1) (both (f R2) (both (f R3) (f R4)))) e .1) .0
+at-rank f e R2 = four-are (f R1) (f R2) (f R3) (f R4) (both-parts (f R0) (both (f R1) (both (f R2) (both (f R3) (f R4)))) e .1) .1
+at-rank f e R3 = four-are (f R1) (f R2) (f R3) (f R4) (both-parts (f R0) (both (f R1) (both (f R2) (both (f R3) (f R4)))) e .1) .2
+at-rank f e R4 = four-are (f R1) (f R2) (f R3) (f R4) (both-parts (f R0) (both (f R1) (both (f R2) (both (f R3) (f R4)))) e .1) .3
 
 at-decision : (f : Decision → Bool) → everyDecision f ≡ true → (d : Decision) → f d ≡ true
 unfolding everyDecision
@@ -88,8 +85,8 @@ at-decision f e Indeterminate = four-are (f Permit) (f Deny) (f NotApplicable) (
 
 at-effect : (f : Effect → Bool) → everyEffect f ≡ true → (x : Effect) → f x ≡ true
 unfolding everyEffect
-at-effect f e Permits = both-are (f Permits) (f Denies) e .0
-at-effect f e Denies = both-are (f Permits) (f Denies) e .1
+at-effect f e Permits = both-parts (f Permits) (f Denies) e .0
+at-effect f e Denies = both-parts (f Permits) (f Denies) e .1
 
 -- of every algorithm but only-one
 climbs-table : (a : Algorithm) → isOnly a ≡ false
@@ -115,7 +112,7 @@ module _ (a : Algorithm) (plain : isOnly a ≡ false) where
   unfolding climbs leaves
   still-ahead r e d x h =
       go (ahead a (join r (rankOf a e d)) (decisionOf x)) (ahead a r (decisionOf x)) (is d (decisionOf x))
-      (both-are (leaves a r e d (decisionOf x)) (reaches a r e d (decisionOf x)) (one-more r e d x) .0) h
+      (both-parts (leaves a r e d (decisionOf x)) (reaches a r e d (decisionOf x)) (one-more r e d x) .0) h
     where
       go : (p q i : Bool) → implies p (both q (not i)) ≡ true → p ≡ true → (q ≡ true) × (i ≡ false)
       go true true true e h = (refl, cc)
@@ -128,7 +125,7 @@ module _ (a : Algorithm) (plain : isOnly a ≡ false) where
   unfolding climbs reaches
   was-ahead r e d x h n =
       go (is (result a (Ranked (join r (rankOf a e d)))) (decisionOf x)) (is (result a (Ranked r)) (decisionOf x)) (ahead a r (decisionOf x))
-      (both-are (leaves a r e d (decisionOf x)) (reaches a r e d (decisionOf x)) (one-more r e d x) .1) (ap (λ z. is z (decisionOf x)) h ∙ self x) n
+      (both-parts (leaves a r e d (decisionOf x)) (reaches a r e d (decisionOf x)) (one-more r e d x) .1) (ap (λ z. is z (decisionOf x)) h ∙ self x) n
     where
       self : (x : Effect) → is (decisionOf x) (decisionOf x) ≡ true
       self Permits = refl

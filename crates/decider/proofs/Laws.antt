@@ -10,6 +10,7 @@ use borrow.Author.Tests.{ne-eqb}
 use Rattle.record.specs.Choose.{if, both, either}
 use Rattle.record.specs.Bytes.{size, byteOf, bigOf}
 use Rattle.record.specs.Forest.{spanIn, forest}
+use Rattle.record.proofs.Choose.{both-left}
 use Rattle.meaning.specs.Numbers.{numberOf}
 use Rattle.meaning.specs.Logic.{isUnknown, some}
 use Rattle.meaning.specs.Meaning.{Bags, targetOf, Child, said, owed, is, unsure, keep, applying, decisionOf, combine, ownOf, binding, overRules, overPolicies, ruleChildren}
@@ -75,11 +76,7 @@ module _ (b : List ℕ) (d : Decision) (i left : ℕ) {s : ℕ} (h : 0 < left) (
 
 due-kind : (b : List ℕ) (i : ℕ) (d : Decision) → isDue b i d ≡ true → isKind b i 8 ≡ true
 unfolding isDue
-due-kind b i d = go (isKind b i 8) (is d (decisionOf (effectOf (choiceAt b i))))
-  where
-    go : (p q : Bool) → both p q ≡ true → p ≡ true
-    go true q e = refl
-    go false q e = e
+due-kind b i d = both-left (isKind b i 8) (is d (decisionOf (effectOf (choiceAt b i))))
 
 pub record Putting (b : List ℕ) (d : Decision) (l : List ℕ) (n from count i left : ℕ) (o : List ℕ) (m : ℕ) : Type 0 where
   pub xs : List ℕ

@@ -5,8 +5,9 @@ use mathlib.Core.List.{List, [], _∷_}
 use Prim.Native.Nat.{ℕ, zero, suc, _/_, _%_}
 use Rattle.record.specs.Bytes.{bigOf, spanOf}
 use Rattle.record.specs.Forest.{spanIn, growF, forest}
+use Rattle.record.specs.Below.{allBelow}
 use Rattle.value.specs.Value.{signed64, finiteOf, valueOf, functionOf, holdsOf}
-use Rattle.fields.specs.First.{allBelow, countBelow, lastBelow, firstFrom}
+use Rattle.fields.specs.First.{countBelow, lastBelow, firstFrom}
 use Rattle.fields.specs.Fields.{kindOf, kindAt, typeOf, typeAt, finite, zeros, plainOk, sectionOk, comparesOk, obligationOk, fieldOk, obligationsOf}
 use Rattle.fields.specs.Entries.{entryOk}
 use Rattle.meaning.specs.Logic.{andAll, orAll, targetAll}

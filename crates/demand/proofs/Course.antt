@@ -1,17 +1,16 @@
 -- The run of a translated book: it ends within the programme's length, never meets 8, gives no decision before its end, and then gives the decision and the
 -- obligations of the tree. Assumes nothing.
-use Prim.Native.Nat.{ℕ, zero, suc, _+_, _-_, _*_, _/_, _≤_, _<_}
+use Prim.Native.Nat.{ℕ, zero, suc, _+_, _-_, _≤_, _<_}
 use mathlib.Core.Path.{_≡_, refl, sym, ap, _∙_}
-use mathlib.Core.Bool.{Bool, true, false}
-use mathlib.Core.List.{List, map}
+use mathlib.Core.Bool.{true, false}
+use mathlib.Core.List.{List}
 use lib.Dec.{ltb}
 use lib.ListN.{length, getD, take}
 use lib.Seq.{length-take-le}
 use native.Mathlib.Omega.{arith}
-use borrow.Author.Tests.{lt-ltb, ltb-true, ltb-false}
+use borrow.Author.Tests.{lt-ltb}
 use Rattle.record.specs.Choose.{if}
-use Rattle.meaning.specs.Policy.{Tree}
-use Rattle.meaning.specs.Meaning.{Bags, decides, obliges}
+use Rattle.meaning.specs.Meaning.{Bags}
 use Rattle.meaning.specs.declared.Decision.{Decision}
 use Rattle.meaning.specs.declared.Decision.the-variants.{Permit, Deny, NotApplicable, Indeterminate}
 use Rattle.programme.specs.declared.State.{State}
@@ -19,16 +18,12 @@ use Rattle.programme.specs.Entry.{Entry, further, lawful}
 use Rattle.programme.specs.Layout.{unpackOf, packOf, allowed, fetch}
 use Rattle.programme.specs.Step.{mayStep, stepOf, isOver, countBy, freshOf}
 use Rattle.programme.proofs.Forward.{still-allowed}
-use Rattle.run.specs.Run.{stay, oneMore, goOn, runOf}
-use Rattle.run.specs.Runs.{andThen}
+use Rattle.run.specs.Run.{runOf}
 use Rattle.run.specs.Tick.{countOf, obligationsOf}
 use Rattle.run.specs.declared.kinds.Ran.{Ran}
 use Rattle.run.proofs.Runs.{finished-stays, runs-add}
-use Rattle.translator.specs.Code.{programme, inNumbers}
 use Rattle.translator.specs.Flat.{Flat, flatAfter, sees, flatStep, flatRun, flatOf, isFurther, Codes}
 use Rattle.demand.specs.Course.{Early, Late, Course}
-use Rattle.translator.proofs.Holding.{InTree}
-use Rattle.translator.proofs.Fetch.{Key, Short, numbers-length, codes, lawful-at}
 use Rattle.translator.proofs.Packed.{packed-step}
 use Rattle.translator.proofs.Arrays.{Going}
 use Rattle.translator.proofs.Whole.{Answers}

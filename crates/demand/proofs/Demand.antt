@@ -1,20 +1,19 @@
 -- The claims of specs/Demand.antt. Assumes nothing.
-use Prim.Native.Nat.{ℕ, zero, suc, _+_, _-_, _*_, _/_, _%_, _≤_, _<_}
+use Prim.Native.Nat.{ℕ, _+_, _-_, _*_, _/_, _≤_, _<_}
 use mathlib.Core.Path.{_≡_, refl, sym, ap, _∙_}
 use mathlib.Core.Bool.{Bool, true, false}
 use mathlib.Core.List.{List, [], _∷_, _++_}
-use lib.Dec.{ltb, leb}
-use lib.ListN.{length, getD, replicate, length-append, length-replicate}
+use lib.Dec.{ltb}
+use lib.ListN.{length, replicate, length-append, length-replicate}
 use native.Mathlib.Nat.{zero-add, add-zero, add-assoc}
 use native.Mathlib.Omega.{arith}
 use borrow.Author.Tests.{lt-ltb, le-ltb, le-leb, ltb-true, ltb-false}
-use Rattle.record.specs.Choose.{if, both}
-use Rattle.record.specs.Bytes.{size, byteOf, bigOf}
-use Rattle.record.specs.Forest.{forest}
+use Rattle.record.specs.Choose.{if}
+use Rattle.record.specs.Bytes.{size, bigOf}
 use Rattle.record.proofs.Laws.{big-two}
 use Rattle.meaning.specs.Policy.{Tree}
 use Rattle.meaning.specs.Meaning.{Bags, decides, obliges}
-use Rattle.meaning.specs.Reading.{choiceAt, keyAt, testAt, matchAt, comparisonAt, bookOf, bagsOf}
+use Rattle.meaning.specs.Reading.{keyAt, testAt, matchAt, comparisonAt, bookOf, bagsOf}
 use Rattle.meaning.specs.declared.Decision.{Decision}
 use Rattle.meaning.specs.declared.Effect.the-variants.{Permits, Denies}
 use Rattle.judge.specs.Judge.{judgeOf}
@@ -22,23 +21,22 @@ use Rattle.judge.specs.Request.{judgeRequestOf}
 use Rattle.judge.specs.Exactly.{Keeps}
 use Rattle.judge.specs.Sound.{Nested}
 use Rattle.judge.specs.declared.Judged.the-variants as book
-use Rattle.judge.specs.declared.JudgedRequest.{JudgedRequest}
 use Rattle.judge.specs.declared.JudgedRequest.the-variants as request
 use Rattle.judge.proofs.Exactly.{accepted-keeps}
 use Rattle.judge.proofs.Sound.{kept-nests}
 use Rattle.programme.specs.declared.State.{State}
 use Rattle.programme.specs.Core.{atOnce}
-use Rattle.programme.specs.Layout.{unpackOf, allowed, fetch}
+use Rattle.programme.specs.Layout.{fetch}
 use Rattle.programme.specs.Step.{isOver, freshOf}
 use Rattle.run.specs.Run.{runOf}
 use Rattle.run.specs.Runs.{andThen}
-use Rattle.run.specs.Tick.{admitted, Ticked, countOf, obligationsOf, answered, ranOf, judgedTick, tickOf}
+use Rattle.run.specs.Tick.{admitted, Ticked, answered, ranOf, tickOf}
 use Rattle.run.specs.declared.kinds.Ran.{Ran}
 use Rattle.run.specs.declared.kinds.Answer.the-variants.{Running, Finished}
 use Rattle.run.proofs.Runs.{runs-add, runs-stay-allowed}
 use Rattle.translator.specs.Code.{programme, translated, inNumbers, obligations}
 use Rattle.translator.specs.Translate.{programmeOf}
-use Rattle.demand.specs.Course.{Early, Late, Course}
+use Rattle.demand.specs.Course.{Course}
 use Rattle.demand.specs.Demand.{Bytes, RunsRight, dealt, sum, answerAfter, EveryDealing}
 use Rattle.translator.proofs.Holding.{InTree, book-has}
 use Rattle.translator.proofs.Fetch.{Key, Short, numbers-length, codes, lawful-at}

@@ -3,19 +3,11 @@ use mathlib.Core.Path.{_≡_, refl, sym, ap, _∙_}
 use mathlib.Core.Bool.{Bool, true, false}
 use mathlib.Core.Logic.{⊎-elim}
 use Prim.Native.Nat.{ℕ, zero, suc, _+_, _-_, _≤_, _<_}
-use native.Mathlib.Nat.{add-zero, eq-or-lt-of-le, le-of-suc-le-suc, not-suc-le-zero}
+use native.Mathlib.Nat.{eq-or-lt-of-le, le-of-suc-le-suc, not-suc-le-zero}
 use native.Mathlib.Numerals.{add-one}
 use native.Mathlib.Omega.{arith}
-use Rattle.record.specs.Choose.{if, both}
-use Rattle.fields.specs.First.{allBelow, countBelow, lastBelow, firstFrom}
-
-pub both-left : (a b : Bool) → both a b ≡ true → a ≡ true
-both-left true b p = refl
-both-left false b p = p
-
-pub both-right : (a b : Bool) → both a b ≡ true → b ≡ true
-both-right true b p = p
-both-right false b p = cc
+use Rattle.record.specs.Choose.{if}
+use Rattle.fields.specs.First.{countBelow, lastBelow, firstFrom}
 
 -- a Bool is one of the two
 pub by : {A : Type 0} (t : Bool) → (t ≡ true → A) → (t ≡ false → A) → A
@@ -23,27 +15,6 @@ by true f g = f refl
 by false f g = g refl
 
 -- two tests that agree
-pub all-same : (f g : ℕ → Bool) (n : ℕ) → ((j : ℕ) → f j ≡ g j) → allBelow f n ≡ allBelow g n
-unfolding allBelow
-all-same f g zero h = refl
-all-same f g (suc n) h = rw (all-same f g n h, h n)
-
-both-true : (a : Bool) → both a true ≡ a
-both-true true = refl
-both-true false = refl
-
-both-both : (s t u : Bool) → both s (both t u) ≡ both (both s t) u
-both-both true t u = refl
-both-both false t u = refl
-
--- first some numbers, then the others
-pub all-split : (f : ℕ → Bool) (m n : ℕ) → allBelow f (m + n) ≡ both (allBelow f m) (allBelow (λ (j : ℕ). f (m + j)) n)
-unfolding allBelow
-all-split f m zero = rw (add-zero m) (sym (both-true (allBelow f m)))
-all-split f m (suc n) =
-    let e : m + suc n ≡ suc (m + n) = omega arith in
-    rw (e, all-split f m n) (sym (both-both (allBelow f m) _ (f (m + n))))
-
 pub count-same : (f g : ℕ → Bool) (n : ℕ) → ((j : ℕ) → j < n → f j ≡ g j) → countBelow f n ≡ countBelow g n
 unfolding countBelow
 count-same f g zero h = refl

@@ -9,16 +9,13 @@ use lib.Dec.{leb, eqb}
 use borrow.Author.Tests.{leb-true, eqb-true, eqb-false, not-true}
 use Rattle.record.specs.Choose.{both}
 use Rattle.record.specs.Bytes.{size, byteOf, spanOf, bigOf}
+use Rattle.record.proofs.Choose.{no-false, both-left, both-right}
 use Rattle.fields.specs.Fields.{kindAt, categoryOk, typeOf, typeAt, finite, valueOk, functionOk, zeros, plainOk, sectionOk, comparesOk, obligationOk, rulesOf, fieldOk}
 use Rattle.fields.specs.Entries.{entryOk}
 use Rattle.fields.specs.Known.{Bytes, Valued, Compares, KeptIsKnown, KeptEntryIsKnown}
 use Rattle.fields.specs.declared.Kind.{Kind}
 use Rattle.fields.specs.declared.Kind.the-variants.{PolicySet, Policy, Rule, Section, Conjunction, Match, Logic, Not, Comparison, Obligation, Nothing}
 use Rattle.fields.specs.declared.Sort.{Sort}
-use Rattle.fields.proofs.First.{both-left, both-right}
-
-absurd-bool : {A : Type 0} → false ≡ true → A
-absurd-bool e = let z : _≡_ {A = ℕ} 0 1 = cc in absurd (omega arith)
 
 category-is : (c : ℕ) → categoryOk c ≡ true → (1 ≤ c) × (c ≤ 4)
 category-is c e = (leb-true 1 c (both-left (leb 1 c) (leb c 4) e), leb-true c 4 (both-right (leb 1 c) (leb c 4) e))
@@ -34,7 +31,7 @@ exponent b i h =
 valued : (b : List ℕ) (i : ℕ) (t : Sort) → Bytes b → valueOk t (finite b i) ≡ true → Valued b i t
 unfolding finite
 valued b i t h e = record {
-  typed = λ q. absurd-bool (rw q at e);
+  typed = λ q. no-false (rw q at e);
   double = λ q x. eqb-false (byteOf b i 8 % 128 * 16 + byteOf b i 9 / 16) 2047 (flip _ (rw q at e)) (sym (exponent b i h) ∙ x);
 }
   where
@@ -92,7 +89,7 @@ span-of b i Logic e = plain-span b i 1 e
 span-of b i Not e = omega (arith, plain-span b i 2 e)
 span-of b i Comparison e = omega (arith, alone-compares b i (byteOf b i 1 - 10) e)
 span-of b i Obligation e = omega (arith, alone-obligation b i e)
-span-of b i Nothing e = absurd-bool e
+span-of b i Nothing e = no-false e
 
 pub span-pos : (b : List ℕ) (i : ℕ) → fieldOk b i ≡ true → 1 ≤ spanOf b i
 unfolding fieldOk
@@ -106,7 +103,7 @@ category-pos b i e q = section-is b i (rw q at e) .1 .0
 pub kept-is-known : KeptIsKnown
 unfolding fieldOk
 kept-is-known b i h e = record {
-  is = λ q. absurd-bool (rw q at e);
+  is = λ q. no-false (rw q at e);
   span = span-pos b i e;
   section-span = λ q. section-is b i (rw q at e) .0;
   conjunction-span = λ q. plain-span b i 2 (rw q at e);

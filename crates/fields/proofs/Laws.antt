@@ -4,31 +4,21 @@ use mathlib.Core.Bool.{Bool, true, false}
 use mathlib.Core.List.{List}
 use Prim.Native.Nat.{ℕ, zero, suc, _+_, _-_, _*_, _≤_, _<_}
 use native.Mathlib.Omega.{arith}
-use lib.Dec.{leb, eqb}
+use lib.Dec.{eqb}
 use lib.ListN.{getD}
 use borrow.Author.Tests.{le-leb, lt-leb, eq-eqb, ne-eqb}
 use Rattle.record.specs.Choose.{if, both, among}
 use Rattle.record.specs.Bytes.{size, byteOf, spanOf, bigOf}
-use Rattle.fields.specs.First.{allBelow, countBelow}
+use Rattle.record.specs.Below.{allBelow}
+use Rattle.record.proofs.Choose.{above-among}
+use Rattle.record.proofs.Below.{all-same, all-split}
+use Rattle.fields.specs.First.{countBelow}
 use Rattle.fields.specs.Fields.{categoryOk, typeOf, typeAt, finite, valueOk, functionOk, zeros, plainOk, sectionOk, comparesOk, obligationOk, obligationsOf}
 use Rattle.fields.specs.Entries.{entryOk}
 use Rattle.fields.specs.declared.Sort.{Sort}
-use Rattle.fields.proofs.First.{all-same, all-split, count-more, count-le}
+use Rattle.fields.proofs.First.{count-more, count-le}
 
-both-false : (a b : Bool) → b ≡ false → both a b ≡ false
-both-false true b p = p
-both-false false b p = refl
-
--- a number outside, and inside
-pub below-among : (low high n : ℕ) → n < low → among low high n ≡ false
-below-among low high n h = simp (lt-leb low n h)
-
-pub above-among : (low high n : ℕ) → high < n → among low high n ≡ false
-above-among low high n h = both-false (leb low n) (leb n high) (lt-leb n high h)
-
-pub in-among : (low high n : ℕ) → low ≤ n → n ≤ high → among low high n ≡ true
-in-among low high n h g = simp (le-leb low n h, le-leb n high g)
-
+-- a choice that is neither 1 nor 2, and one that is not 3
 pub not-logic : (c : ℕ) → (c ≡ 1 → ⊥) → (c ≡ 2 → ⊥) → among 1 2 c ≡ false
 not-logic zero p q = refl
 not-logic (suc zero) p q = absurd (p refl)
@@ -57,7 +47,7 @@ all-big b at (suc n) = rw (all-big b at n, sum-zero (bigOf b at n) (getD b (at +
 
 pub zeros-big : (b : List ℕ) (i a z : ℕ) → zeros b i a z ≡ eqb (bigOf b (i * size + a) (z - a)) 0
 unfolding zeros
-zeros-big b i a z = all-same _ _ (z - a) (λ j. same-byte b (i * size + (a + j)) (i * size + a + j) (omega arith)) ∙ all-big b (i * size + a) (z - a)
+zeros-big b i a z = all-same _ _ (z - a) (λ j l. same-byte b (i * size + (a + j)) (i * size + a + j) (omega arith)) ∙ all-big b (i * size + a) (z - a)
 
 zeros-split : (b : List ℕ) (i a m n : ℕ) → zeros b i a (a + m + n) ≡ both (zeros b i a (a + m)) (zeros b i (a + m) (a + m + n))
 unfolding zeros
@@ -67,7 +57,7 @@ zeros-split b i a m n =
     let z : a + m + n - (a + m) ≡ n = omega arith in
     let F : ℕ → Bool = λ (j : ℕ). eqb (byteOf b i (a + j)) 0 in
     let s : allBelow (λ (j : ℕ). F (m + j)) n ≡ allBelow (λ (j : ℕ). eqb (byteOf b i (a + m + j)) 0) n =
-    all-same _ _ n (λ j. same-byte b (i * size + (a + (m + j))) (i * size + (a + m + j)) (omega arith)) in
+    all-same _ _ n (λ j l. same-byte b (i * size + (a + (m + j))) (i * size + (a + m + j)) (omega arith)) in
     rw (x, y, z) (all-split F m n ∙ ap (both (allBelow F m)) s)
 
 zeros-one : (b : List ℕ) (i a : ℕ) → zeros b i a (a + 1) ≡ eqb (byteOf b i a) 0

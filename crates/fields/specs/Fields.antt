@@ -6,7 +6,8 @@ use mathlib.Core.List.{List}
 use lib.Dec.{eqb, leb}
 use Rattle.record.specs.Choose.{if, both, among}
 use Rattle.record.specs.Bytes.{size, byteOf, spanOf}
-use Rattle.fields.specs.First.{allBelow, countBelow}
+use Rattle.record.specs.Below.{allBelow}
+use Rattle.fields.specs.First.{countBelow}
 use Rattle.fields.specs.declared.Kind.{Kind}
 use Rattle.fields.specs.declared.Kind.the-variants.{PolicySet, Policy, Rule, Section, Conjunction, Match, Logic, Not, Comparison, Obligation, Nothing}
 use Rattle.fields.specs.declared.Sort.{Sort}

@@ -1,12 +1,7 @@
--- Tests of the numbers below n: all pass, how many pass, the last that passes; and the first that fails. Assumes nothing.
+-- Tests of the numbers below n: how many pass, the last that passes; and the first that fails. Assumes nothing.
 use Prim.Native.Nat.{ℕ, zero, suc, _+_}
-use mathlib.Core.Bool.{Bool, true}
-use Rattle.record.specs.Choose.{if, both}
-
--- f passes at every number below n
-unfoldable pub allBelow : (ℕ → Bool) → ℕ → Bool
-allBelow f zero = true
-allBelow f (suc n) = both (allBelow f n) (f n)
+use mathlib.Core.Bool.{Bool}
+use Rattle.record.specs.Choose.{if}
 
 -- at how many numbers below n f passes
 unfoldable pub countBelow : (ℕ → Bool) → ℕ → ℕ

@@ -5,7 +5,8 @@ use Prim.Native.Nat.{ℕ, zero, suc}
 use lib.ListN.{set}
 use Rattle.record.specs.Bytes.{spanOf}
 use Rattle.record.specs.Refusals.{book, request, noRecord, cutShort, badField, badPlace}
-use Rattle.fields.specs.First.{allBelow, countBelow, lastBelow, firstFrom}
+use Rattle.record.specs.Below.{allBelow}
+use Rattle.fields.specs.First.{countBelow, lastBelow, firstFrom}
 use Rattle.fields.specs.Fields.{kindOf, kindAt, typeOf, typeAt, finite, zeros, plainOk, sectionOk, comparesOk, obligationOk, fieldOk, obligationsOf}
 use Rattle.fields.specs.Entries.{entryOk}
 use Rattle.judge.specs.Place.{endOf, parentOf, elderOf, depthOf, holdsConditions, singleOf, rankAt, elderRank, standsOk, childRule, childBroken, topOk, brokenAt, placeOk}

@@ -8,17 +8,14 @@ use lib.Dec.{leb, eqb}
 use borrow.Author.Tests.{eqb-true, leb-true}
 use Rattle.record.specs.Choose.{if, both, among}
 use Rattle.record.specs.Bytes.{size, byteOf, spanOf}
+use Rattle.record.proofs.Choose.{no-false, both-left, both-right, above-among}
 use Rattle.fields.specs.Fields.{kindOf, kindAt, categoryOk, zeros, sectionOk, comparesOk, obligationOk, rulesOf, fieldOk}
 use Rattle.fields.specs.declared.Kind.{Kind}
 use Rattle.fields.specs.declared.Kind.the-variants.{PolicySet, Policy, Rule, Section, Conjunction, Match, Logic, Not, Comparison, Obligation, Nothing}
-use Rattle.fields.proofs.First.{by, both-left, both-right}
-use Rattle.fields.proofs.Laws.{above-among}
+use Rattle.fields.proofs.First.{by}
 use Rattle.fields.proofs.Known.{span-pos}
 use Rattle.judge.specs.Place.{numberOf}
 use Rattle.judge.specs.Row.{Fit}
-
-pub no-false : {A : Type 0} → false ≡ true → A
-no-false e = let z : _≡_ {A = ℕ} 0 1 = cc in absurd (omega arith)
 
 -- a record of kind 08 is an obligation, or nothing
 eight : (c : ℕ) (t : Bool) {k : Kind} → among 1 2 c ≡ t → kindOf 8 c ≡ k → (k ≡ Obligation → ⊥) → Nothing ≡ k

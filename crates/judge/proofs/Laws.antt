@@ -11,6 +11,7 @@ use lib.ListN.{length}
 use borrow.Author.Tests.{lt-ltb, le-ltb, ltb-true, ltb-false, eq-eqb, ne-eqb, eqb-true, leb-true, lt-leb, le-leb}
 use Rattle.record.specs.Choose.{if, both, either, among}
 use Rattle.record.specs.Bytes.{size, byteOf, spanOf}
+use Rattle.record.proofs.Choose.{both-parts}
 use Rattle.fields.specs.First.{lastBelow, countBelow, firstFrom}
 use Rattle.fields.specs.Fields.{kindAt, fieldOk, obligationsOf}
 use Rattle.fields.specs.declared.Kind.{Kind}
@@ -117,17 +118,13 @@ unfolding childRule
 rule-none end top d t e = let w = tests (leb end top) t (leb d mostDepth) e in (leb-true end top (w .0), w .1, leb-true d mostDepth (w .2))
 
 -- a child that may stand there: its parent takes it, it comes after the child before, and a match has its section's category
-both-parts : (s t u : Bool) → both s (both t u) ≡ true → (s ≡ true) × (t ≡ true) × (u ≡ true)
-both-parts true true true e = (refl, refl, refl)
-both-parts true true false e = (refl, refl, e)
-both-parts true false u e = let z : _≡_ {A = ℕ} 0 1 = cc in absurd (omega arith)
-both-parts false t u e = let z : _≡_ {A = ℕ} 0 1 = cc in absurd (omega arith)
-
 pub stands-parts : (p : ℕ) (k : Kind) (c e g : ℕ) → standsOk p k c e g ≡ true → (takesOf p k ≡ true) × (e + stepOf p k ≤ rankOf k c) × (underOk k g c ≡ true)
 unfolding standsOk
 stands-parts p k c e g x =
-    let w = both-parts (takesOf p k) (leb (e + stepOf p k) (rankOf k c)) (underOk k g c) x in
-    (w .0, leb-true (e + stepOf p k) (rankOf k c) (w .1), w .2)
+    let a : Bool = leb (e + stepOf p k) (rankOf k c) in
+    let w = both-parts (takesOf p k) (both a (underOk k g c)) x in
+    let v = both-parts a (underOk k g c) (w .1) in
+    (w .0, leb-true (e + stepOf p k) (rankOf k c) (v .0), v .1)
 
 pub rule-zero : (end top d : ℕ) (t : Bool) → end ≤ top → t ≡ true → d ≤ mostDepth → childRule end top d t ≡ 0
 unfolding childRule

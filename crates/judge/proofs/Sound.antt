@@ -12,12 +12,13 @@ use borrow.Author.Tests.{lt-ltb, ltb-false, eq-eqb, ne-eqb, eqb-true, eqb-false}
 use Rattle.record.specs.Choose.{if, either, among}
 use Rattle.record.specs.Bytes.{size, byteOf, spanOf}
 use Rattle.record.specs.Forest.{spanIn, growF, forest}
+use Rattle.record.proofs.Choose.{both-right}
 use Rattle.record.proofs.Forests.{forest-none, forest-step}
 use Rattle.fields.specs.First.{lastBelow, countBelow}
 use Rattle.fields.specs.Fields.{kindAt, fieldOk}
 use Rattle.fields.specs.declared.Kind.{Kind}
 use Rattle.fields.specs.declared.Kind.the-variants.{PolicySet, Policy, Rule, Section, Conjunction, Match, Logic, Not, Comparison, Obligation, Nothing}
-use Rattle.fields.proofs.First.{by, both-right, last-ge, last-of}
+use Rattle.fields.proofs.First.{by, last-ge, last-of}
 use Rattle.fields.proofs.Known.{span-pos, category-pos}
 use Rattle.judge.specs.Place.{endOf, covers, parentOf, depthOf, numberOf, singleOf, elderOf, elderRank, rankOf, rankAt, stepOf, underOk, standsOk, childBroken, topOk, brokenAt, placeOk}
 use Rattle.judge.specs.Exactly.{AllKeep, Sized, Keeps}

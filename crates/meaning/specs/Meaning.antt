@@ -4,7 +4,7 @@ use mathlib.Core.Bool.{Bool, true, false}
 use mathlib.Core.List.{List, [], _∷_, _++_}
 use Rattle.record.specs.Choose.{if, both, either}
 use Rattle.value.specs.Value.{holdsOf}
-use Rattle.meaning.specs.Logic.{isTrue, isUnknown, some, andAll, orAll, notOf, targetAll}
+use Rattle.meaning.specs.Logic.{isUnknown, some, andAll, orAll, notOf, targetAll}
 use Rattle.meaning.specs.Policy.{Some, last, more, Conjunction, Section, Target, Condition, compares, all, any, not, Conditions, noPart, part, When, always, whenever, Rule, Obligation, OverRules, rulesDeny, rulesPermit, rulesFirst, OverPolicies, policiesDeny, policiesPermit, policiesFirst, policiesOnlyOne, Tree, policy, set, Trees, noTree, tree}
 use Rattle.meaning.specs.declared.Truth.{Truth}
 use Rattle.meaning.specs.declared.Truth.the-variants.{True, False, Unknown}

@@ -1,7 +1,7 @@
 -- How record bytes encode a policy tree, and request bytes bags: document 01, "The book". Every forest of records is read, so that no claim waits
 -- for an acceptance: what no accepted book has is read as said here. Assumes nothing.
 use Prim.Native.Nat.{ℕ, zero, suc, _+_, _-_, _*_, _/_, _%_}
-use mathlib.Core.Bool.{Bool, true, false}
+use mathlib.Core.Bool.{Bool}
 use mathlib.Core.List.{List, [], _∷_, _++_}
 use lib.Dec.{eqb, ltb}
 use lib.ListN.{length}

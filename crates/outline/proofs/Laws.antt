@@ -7,12 +7,11 @@ use native.Mathlib.Nat.{le-refl}
 use native.Mathlib.Numerals.{add-one}
 use native.Mathlib.Omega.{arith}
 use borrow.Author.Tests.{lt-ltb, le-ltb, le-leb, lt-leb, eq-eqb, ne-eqb}
-use lib.Dec.{eqb, ltb}
+use lib.Dec.{eqb}
 use lib.ListN.{length, take, set, getD, replicate, length-set, length-append, length-take}
-use lib.Seq.{take-all, take-length, take-suc, take-suc-set, take-append-le}
+use lib.Seq.{take-all, take-suc, take-suc-set, take-append-le}
 use Rattle.io.specs.Digits.{glyph}
-use Rattle.record.specs.Choose.{if, both, either, among}
-use Rattle.outline.specs.Outline.{Adds, Says, digitOf, digitsOf, decimalOf, integerOf, plain, escaped, nameOf, exponentOf, fractionOf, signOf, hexesOf, pointOf, writtenOf, powerOf, leadOf, hexOf, halvedOf, wholeOf, isWhole, digitsToo, doubleOf}
+use Rattle.outline.specs.Outline.{Says, digitOf, digitsOf, decimalOf, integerOf, plain, escaped, nameOf, exponentOf, fractionOf, signOf, hexesOf, pointOf, writtenOf, powerOf, leadOf, hexOf, halvedOf, wholeOf, isWhole, digitsToo, doubleOf}
 
 -- a part that is cut again
 take-cut : (n : ℕ) (l ys : List ℕ) → take n (take n l ++ ys) ≡ take n (l ++ ys)

@@ -7,6 +7,7 @@ use native.Mathlib.Omega.{arith}
 use lib.Dec.{eqb, ltb, leb}
 use borrow.Author.Tests.{lt-ltb, le-leb, leb-true}
 use Rattle.record.specs.Choose.{both}
+use Rattle.record.proofs.Choose.{both-left, both-right}
 use Rattle.meaning.specs.declared.Truth.{Truth}
 use Rattle.meaning.specs.declared.Truth.the-variants.{True, False, Unknown}
 use Rattle.meaning.specs.declared.Effect.{Effect}
@@ -293,14 +294,6 @@ allowed-pack h r =
       le-leb _ _ (r .permits),
       le-leb _ _ (r .stacks),
     )
-
-pub both-left : (a b : Bool) → both a b ≡ true → a ≡ true
-both-left true b e = refl
-both-left false b e = e
-
-pub both-right : (a b : Bool) → both a b ≡ true → b ≡ true
-both-right true b e = e
-both-right false b e = let z : _≡_ {A = ℕ} 0 1 = cc in absurd (omega arith)
 
 at-small : (n : ℕ) → unpackOf n .at < 8192
 unfolding unpackOf

@@ -1,6 +1,6 @@
 -- Every step moves forward, inside the programme, and leaves a first number that the layout allows. Assumes nothing.
 use Prim.Native.Nat.{ℕ, zero, suc, _+_, _≤_, _<_, max}
-use mathlib.Core.Path.{_≡_, refl, ap}
+use mathlib.Core.Path.{_≡_, refl}
 use mathlib.Core.Bool.{Bool, true, false}
 use mathlib.Core.List.{List}
 use lib.ListN.{length}
@@ -8,6 +8,7 @@ use lib.Dec.{ltb, leb}
 use native.Mathlib.Omega.{arith}
 use borrow.Author.Tests.{ltb-true, leb-true}
 use Rattle.record.specs.Choose.{if, both}
+use Rattle.record.proofs.Choose.{both-parts}
 use Rattle.meaning.specs.Logic.{andOf, orOf, targetAnd}
 use Rattle.meaning.specs.Meaning.{Bags, matchOf, comparisonOf, is, decisionOf}
 use Rattle.meaning.specs.declared.Truth.{Truth}
@@ -207,10 +208,6 @@ stacks-range h (FallDeny k) w r = omega (arith, r .stacks)
 stacks-range h (FallBoth k j) w r = omega (arith, r .stacks)
 stacks-range h (Cut c) w r = omega (arith, w)
 stacks-range h (Down n) w r = r .stacks
-
-both-parts : (a b : Bool) → both a b ≡ true → (a ≡ true) × (b ≡ true)
-both-parts true b e = (refl, e)
-both-parts false b e = absurd (let z : _≡_ {A = ℕ} 0 1 = ap (λ (x : Bool). if x 1 0) e in omega (arith, z))
 
 -- what a lawful entry is
 pub lawful-parts : (long at : ℕ) (e : Entry) → lawful long at e ≡ true → (fits e ≡ true) × (at + suc (reach e) ≤ long)

@@ -8,6 +8,7 @@ use lib.Dec.{leb}
 use lib.ListN.{getD}
 use borrow.Author.Tests.{le-leb, lt-leb, ne-eqb}
 use Rattle.record.specs.Choose.{both}
+use Rattle.record.proofs.Choose.{both-true, both-false}
 use Rattle.meaning.specs.Meaning.{Bags}
 use Rattle.programme.specs.declared.Level.{Level}
 use Rattle.programme.specs.declared.Frame.{Frame}
@@ -37,14 +38,6 @@ module _ (g : Bags) (long : ℕ) (h : Head) (e : Entry) (l m : Level) (f b : Fra
   pub outside : lawful long (h .at) e ≡ false → Outside ≡ meets g long h e l m f b
   unfolding meets
   outside o = rw o
-
-both-true : (x : Bool) → both x true ≡ x
-both-true true = refl
-both-true false = refl
-
-both-false : (x : Bool) → both x false ≡ false
-both-false true = refl
-both-false false = refl
 
 module _ (long at : ℕ) where
   -- an entry that leads nowhere else, one that leads so far, one beyond the end

@@ -1,5 +1,5 @@
 -- The entries of a programme, as words. How numbers stand for them is in specs/Layout.antt. Assumes nothing.
-use Prim.Native.Nat.{ℕ, _+_, _≤_, suc, max}
+use Prim.Native.Nat.{ℕ, _+_, suc, max}
 use mathlib.Core.Bool.{Bool, true, false}
 use lib.Dec.{leb, ltb}
 use Rattle.record.specs.Choose.{both}

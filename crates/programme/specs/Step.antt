@@ -1,6 +1,6 @@
 -- A step: what document 01 says of one in "The programme and its ticks". Assumes nothing.
-use Prim.Native.Nat.{ℕ, zero, suc, _+_, _-_}
-use mathlib.Core.Bool.{Bool, true, false}
+use Prim.Native.Nat.{ℕ, suc, _+_, _-_}
+use mathlib.Core.Bool.{Bool, false}
 use mathlib.Core.List.{List}
 use lib.ListN.{length, getD, replicate}
 use Rattle.record.specs.Choose.{if}
@@ -10,8 +10,6 @@ use Rattle.meaning.specs.declared.Decision.the-variants.{Permit, Deny, NotAppli
 use Rattle.meaning.specs.declared.Truth.the-variants.{True, False}
 use Rattle.programme.specs.declared.Head.{Head}
 use Rattle.programme.specs.declared.State.{State}
-use Rattle.programme.specs.declared.Frame.{Frame}
-use Rattle.programme.specs.declared.Level.{Level}
 use Rattle.programme.specs.Entry.{Entry, extra, lawful}
 use Rattle.programme.specs.Core.{Changing, keep, push, swap, below, back, Out, core}
 use Rattle.programme.specs.Machine.{roomF, roomL, heightAfter, stackAfter, cutAfter, permitsAfter, deniesAfter, placesAfter}

@@ -4,16 +4,14 @@ use mathlib.Core.List.{List, map}
 use Prim.Native.Nat.{ℕ, _≤_, zero-le}
 use native.Mathlib.Omega.{arith}
 use lib.ListN.{length, take}
-use lib.Seq.{take-at}
 use Rattle.record.specs.declared.Refusal.{Refusal}
 use Rattle.text.specs.Table.{tab}
 use Rattle.text.specs.Text.{book, readOf, writeOf, byteAt, textAt, outputAfter}
 use Rattle.text.specs.RoundTrip.{Bytes, upper}
 use Rattle.text.specs.declared.Filled.{Filled}
 use Rattle.text.specs.declared.Filled.the-variants.{Places, Refused}
-use Rattle.text.proofs.Laws.{length-tab}
 use Rattle.text.proofs.Lined.{judge-lined, Lined}
-use Rattle.text.proofs.Accepted.{WasRead, was-read, was-written}
+use Rattle.text.proofs.Accepted.{WasRead, was-read, filled-first, was-written}
 use Rattle.text.proofs.RoundTrip.{read-is-written}
 use Rattle.line.specs.Line.{refusalLine}
 use Rattle.rewrite.specs.Rewrite.{printed, printedBy}
@@ -22,14 +20,6 @@ use Rattle.rewrite.specs.Rewrite.{printed, printedBy}
 pub printed-refusal : (s : List ℕ) (room : ℕ) (r : Refusal) {a : Filled} → room ≡ 16000 → a ≡ readOf book s room → a ≡ Refused r → printed s ≡ refusalLine r
 unfolding printed printedBy
 printed-refusal s room r e p q = ap (λ (x : Filled). printedBy x s) (ap (readOf book s) (sym e) ∙ sym p ∙ q)
-
--- what was filled stands first in the output
-filled-first : (f : ℕ → ℕ) (out : List ℕ) (m : ℕ) {a : Filled} {later : List ℕ} → later ≡ outputAfter f a out → a ≡ Places m → take m later ≡ tab f m
-unfolding outputAfter
-filled-first f out m e p = rw (e, p) (take-at (tab f m) _ m (length-tab f m))
-
-pub read-fits : (s : List ℕ) (room m : ℕ) {a : Filled} → a ≡ readOf book s room → a ≡ Places m → m ≤ room
-read-fits s room m p q = was-read book s room m (sym p ∙ q) .fits
 
 pub write-fits : (r : List ℕ) (room m : ℕ) {a : Filled} → a ≡ writeOf book r room → a ≡ Places m → m ≤ room
 write-fits r room m p q = was-written book r room m (sym p ∙ q) .fits

@@ -4,23 +4,9 @@ use text::Filled;
 ghost use mathlib.Core.Path.{_≡_};
 ghost use Prim.Native.Nat.{_≤_, _*_};
 ghost use lib.ListN.{length, take};
-ghost use Rattle.io.specs.Counts.{Counts};
 ghost use Rattle.record.specs.Bytes.{size, mostRecords};
 ghost use Rattle.text.specs.Text.{lineLength};
 ghost use Rattle.rewrite.specs.Rewrite.{printed};
-
-// How many bytes of the file came: none if it will not open.
-fn read_file(buffer: &mut [u8]) -> usize
-    ensures { λ r. ⌜ Counts r (now (buffer .exit)) ⌝ }
-{
-    let file = os::open_read(b"BOOK.HEX");
-    if file < 0 {
-        return 0;
-    }
-    let n = io::read_full(file, buffer);
-    libc::close(file);
-    n
-}
 
 // Puts what is to be printed first into `out`, and answers its length. `records` is for the work.
 fn rewritten(text: &[u8], records: &mut [u8], out: &mut [u8]) -> usize
@@ -41,7 +27,7 @@ fn main() {
     let mut text = [0u8; 33001];
     let mut records = [0u8; 16000];
     let mut out = [0u8; 33000];
-    let n = read_file(&mut text);
+    let n = file::read_book_file(&mut text);
     let m = rewritten(&text[..n], &mut records, &mut out);
     io::write_all(STDOUT_FILENO, &out[..m]);
 }

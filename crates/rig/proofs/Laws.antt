@@ -1,10 +1,9 @@
 -- Laws of the rig's calls, over plain variables. Assumes nothing.
-use Prim.Native.Nat.{ℕ, suc, _+_, _-_, _<_, _≤_}
+use Prim.Native.Nat.{ℕ, _+_, _<_, _≤_}
 use mathlib.Core.Path.{_≡_, refl, sym, ap, _∙_}
 use mathlib.Core.List.{List, [], _∷_, _++_, append-assoc, append-nil}
-use lib.ListN.{length, getD, set, take, drop, length-append, length-take, length-drop}
+use lib.ListN.{length, getD, set, take, drop, length-append, length-drop}
 use lib.Seq.{take-at, drop-at, drop-drop, take-length, drop-length}
-use native.Mathlib.Numerals.{add-one}
 use native.Mathlib.Omega.{arith}
 use borrow.Author.Tests.{lt-ltb, le-ltb}
 use borrow.Rule.Slice.PartMut.{putMid}

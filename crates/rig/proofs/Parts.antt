@@ -1,14 +1,12 @@
 -- The claims of specs/Parts.antt. Assumes nothing.
-use Prim.Native.Nat.{ℕ, _+_, _*_, _/_, _%_, _<_}
+use Prim.Native.Nat.{_+_, _*_, _/_, _%_, _<_}
 use mathlib.Core.Path.{_≡_}
-use mathlib.Core.List.{List}
 use native.Mathlib.Omega.{arith}
 use Rattle.meaning.specs.Numbers.{numberOf}
 use Rattle.meaning.specs.declared.Decision.{Decision}
 use Rattle.meaning.specs.declared.Decision.the-variants.{Permit, Deny, NotApplicable, Indeterminate}
 use Rattle.run.specs.declared.kinds.Answer.{Answer}
 use Rattle.run.specs.declared.kinds.Answer.the-variants.{Running, Finished, Refused}
-use Rattle.run.specs.declared.kinds.Tick.{Tick}
 use Rattle.rig.specs.Rig.{finishedNumber, answered, tickCall}
 use Rattle.rig.specs.Parts.{lowByte, LowByte, RunningParts, FinishedParts}
 

@@ -13,6 +13,7 @@ use borrow.Author.Tests.{lt-ltb, le-ltb, le-leb, lt-leb, leb-true}
 use Rattle.record.specs.Choose.{if, both}
 use Rattle.record.specs.Refusals.{noRoom, badRun}
 use Rattle.record.specs.declared.Refusal.{Refusal}
+use Rattle.record.proofs.Choose.{both-parts}
 use Rattle.meaning.specs.Meaning.{Bags}
 use Rattle.meaning.specs.Reading.{bagsOf}
 use Rattle.meaning.specs.declared.Decision.{Decision}
@@ -89,10 +90,6 @@ module _ (n head : ℕ) where
       pub admit-by : both (leb (h .depth) 16) (both (leb (h .nest) 14) (both (leb (h .permits) 1000) (leb (h .cut + h .denies) 1000))) ≡ admitted n head
       unfolding admitted allowed
       admit-by = rw (lt-ltb _ _ z, le-leb _ _ l, lt-ltb _ _ s, u) refl
-
-both-parts : (a b : Bool) → both a b ≡ true → (a ≡ true) × (b ≡ true)
-both-parts true b e = (refl, e)
-both-parts false b e = let z : _≡_ {A = ℕ} 0 1 = cc in absurd (omega arith)
 
 pub admit-parts : (n head : ℕ) (k : Bool) → k ≡ admitted n head → k ≡ true → (n ≤ 8008) × (allowed head ≡ true)
 unfolding admitted

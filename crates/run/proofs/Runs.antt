@@ -1,20 +1,19 @@
 -- The claims of specs/Runs.antt. Assumes nothing.
-use Prim.Native.Nat.{ℕ, zero, suc, _+_, _-_, _≤_, _<_, min}
+use Prim.Native.Nat.{ℕ, zero, suc, _+_, _-_, _≤_, min}
 use mathlib.Core.Path.{_≡_, refl, sym, ap, _∙_}
 use mathlib.Core.Bool.{Bool, true, false}
 use mathlib.Core.List.{List}
 use lib.ListN.{length}
-use native.Mathlib.Nat.{zero-add, add-zero, add-assoc, suc-min-suc, zero-min, min-zero}
+use native.Mathlib.Nat.{zero-add, add-assoc, suc-min-suc, zero-min, min-zero}
 use native.Mathlib.Numerals.{one-add}
 use native.Mathlib.Omega.{arith}
-use Rattle.record.specs.Choose.{if}
 use Rattle.meaning.specs.Meaning.{Bags}
 use Rattle.programme.specs.declared.State.{State}
 use Rattle.programme.specs.Layout.{unpackOf, allowed}
 use Rattle.programme.specs.Step.{mayStep, stepOf, isOver}
 use Rattle.programme.proofs.Forward.{still-allowed, further-on}
 use Rattle.run.specs.Run.{stay, oneMore, goOn, runOf}
-use Rattle.run.specs.Runs.{andThen, RunsAdd, stepsLeft, NoMoreThanEntries, TheSmaller, FinishedStays, RunsStayAllowed}
+use Rattle.run.specs.Runs.{andThen, RunsAdd, NoMoreThanEntries, TheSmaller, FinishedStays, RunsStayAllowed}
 use Rattle.run.specs.declared.kinds.Ran.{Ran}
 
 pub finished-stays : FinishedStays

@@ -1,7 +1,7 @@
 -- Book A's programme and its run with 40, as docs/PROGRAMME.md has them, by computation. Assumes nothing.
 use Prim.Native.Nat.{ℕ, _+_}
 use mathlib.Core.Path.{_≡_, refl}
-use mathlib.Core.Bool.{Bool, true, false}
+use mathlib.Core.Bool.{true, false}
 use mathlib.Core.List.{List, [], _∷_, _++_}
 use lib.Dec.{eqb}
 use lib.ListN.{getD}
@@ -12,8 +12,7 @@ use Rattle.meaning.specs.Meaning.{Bags, comparisonOf, gives, typeOf}
 use Rattle.meaning.specs.declared.Effect.the-variants.{Permits, Denies}
 use Rattle.meaning.specs.declared.Decision.the-variants.{Deny}
 use Rattle.meaning.specs.declared.Algorithm.the-variants.{RulesDeny}
-use Rattle.programme.specs.declared.State.{State}
-use Rattle.programme.specs.Entry.{Entry, begin, compare, rule, conclude, oblige, finish, lawful}
+use Rattle.programme.specs.Entry.{begin, compare, rule, conclude, oblige, finish, lawful}
 use Rattle.programme.specs.Core.{core}
 use Rattle.programme.specs.Machine.{copies}
 use Rattle.programme.specs.Layout.{wordsOf, testWord, fetch, entryOf, entryBy, compareBy, testOf, unpackOf, packOf, truthBy, decisionBy, effectBy, algorithmBy, accBy, rankBy, frameOf, frameWord, levelOf, levelWord}

@@ -15,7 +15,6 @@ use Rattle.judge.specs.declared.JudgedRequest.the-variants as judged
 use Rattle.programme.specs.declared.State.{State}
 use Rattle.programme.specs.Layout.{unpackOf, allowed}
 use Rattle.programme.specs.Step.{isOver, countBy}
-use Rattle.run.specs.declared.kinds.Answer.{Answer}
 use Rattle.run.specs.declared.kinds.Answer.the-variants.{Running, Finished, Refused}
 use Rattle.run.specs.declared.kinds.Ran.{Ran}
 use Rattle.run.specs.Run.{runOf}

@@ -10,7 +10,6 @@ use text::Filled;
 ghost use mathlib.Core.Path.{_≡_};
 ghost use Prim.Native.Nat.{_+_, _*_, _≤_, max};
 ghost use lib.ListN.{length};
-ghost use Rattle.io.specs.Counts.{Counts};
 ghost use Rattle.record.specs.Choose.{if};
 ghost use Rattle.record.specs.Bytes.{size};
 ghost use Rattle.judge.specs.Place.{covers, depthOf, parentOf};
@@ -675,23 +674,10 @@ fn show_kept(records: &[u8], n: usize) {
     }
 }
 
-// How many bytes of the file came: none if it will not open.
-fn read_file(buffer: &mut [u8]) -> usize
-    ensures { λ r. ⌜ Counts r (now (buffer .exit)) ⌝ }
-{
-    let file = os::open_read(b"BOOK.HEX");
-    if file < 0 {
-        return 0;
-    }
-    let n = io::read_full(file, buffer);
-    libc::close(file);
-    n
-}
-
 // One byte more than a book can have is read, so a longer file is refused.
 fn main() {
     let mut text = [0u8; 33001];
     let mut records = [0u8; 16000];
-    let n = read_file(&mut text);
+    let n = file::read_book_file(&mut text);
     show(&text[..n], &mut records);
 }

@@ -6,15 +6,19 @@ use Prim.Native.Nat.{ℕ, zero, suc, _*_, _/_, _%_, _≤_}
 use native.Mathlib.Omega.{arith}
 use borrow.Author.Tests.{ltb-false, ne-eqb}
 use lib.Dec.{ltb}
-use lib.ListN.{length}
+use lib.ListN.{length, take}
+use lib.Seq.{take-at}
 use Rattle.record.specs.Choose.{if}
 use Rattle.record.specs.Refusals.{tooMany, noRecord, cutShort, noRoom}
 use Rattle.record.specs.declared.Refusal.{Refusal}
-use Rattle.text.specs.Text.{missing, judgeFrom, readOf, readJudged, writeOf}
+use Rattle.text.specs.Table.{tab}
+use Rattle.text.specs.Text.{missing, judgeFrom, readOf, readJudged, writeOf, outputAfter}
 use Rattle.text.specs.declared.Kind.{Kind}
 use Rattle.text.specs.declared.Judged.{Judged}
 use Rattle.text.specs.declared.Judged.the-variants.{Lines, Wrong, Over}
+use Rattle.text.specs.declared.Filled.{Filled}
 use Rattle.text.specs.declared.Filled.the-variants.{Places, Refused}
+use Rattle.text.proofs.Laws.{length-tab}
 
 no-places : (r : Refusal) (m : ℕ) → Refused r ≡ Places m → ⊥
 no-places r m e = let z : _≡_ {A = ℕ} 0 1 = cc in omega arith
@@ -48,6 +52,14 @@ was-judged k Over room m e = absurd (no-places _ m e)
 pub was-read : (k : Kind) (s : List ℕ) (room m : ℕ) → readOf k s room ≡ Places m → WasRead k room (judgeFrom s (k .most) 0) m
 unfolding readOf
 was-read k s room m e = was-judged k (judgeFrom s (k .most) 0) room m e
+
+pub read-fits : (k : Kind) (s : List ℕ) (room m : ℕ) {a : Filled} → a ≡ readOf k s room → a ≡ Places m → m ≤ room
+read-fits k s room m p q = was-read k s room m (sym p ∙ q) .fits
+
+-- what was filled stands first in the output
+pub filled-first : (f : ℕ → ℕ) (out : List ℕ) (m : ℕ) {a : Filled} {later : List ℕ} → later ≡ outputAfter f a out → a ≡ Places m → take m later ≡ tab f m
+unfolding outputAfter
+filled-first f out m e p = rw (e, p) (take-at (tab f m) _ m (length-tab f m))
 
 pub record WasWritten (k : Kind) (room : ℕ) (r : List ℕ) (m : ℕ) : Type 0 where
   pub some : missing k (length r) ≡ false

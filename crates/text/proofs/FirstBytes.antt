@@ -8,15 +8,10 @@ use borrow.Author.Tests.{le-leb, lt-leb, leb-true, leb-false}
 use lib.Dec.{leb}
 use lib.ListN.{length, take, length-take}
 use lib.Seq.{getD-take}
+use Rattle.record.proofs.Below.{all-same}
 use Rattle.text.specs.Hex.{isDigit}
-use Rattle.text.specs.Table.{allBelow}
 use Rattle.text.specs.Text.{digitAt, goodLine, judgeFrom, readOf}
 use Rattle.text.specs.FirstBytes.{FirstBytes}
-
-all-same : (f g : ℕ → Bool) (n : ℕ) → ((j : ℕ) → j < n → f j ≡ g j) → allBelow f n ≡ allBelow g n
-unfolding allBelow
-all-same f g zero h = refl
-all-same f g (suc n) h = rw (all-same f g n (λ j l. h j (omega arith)), h n (omega arith))
 
 module _ (s : List ℕ) (bytes : ℕ) where
   -- tests of the length at a place before the cut

@@ -6,10 +6,11 @@ use native.Mathlib.Omega.{arith}
 use borrow.Author.Tests.{eqb-true}
 use lib.Dec.{eqb}
 use Rattle.record.specs.Choose.{if, both}
-use Rattle.text.specs.Table.{allBelow}
+use Rattle.record.specs.Below.{allBelow}
+use Rattle.record.proofs.Choose.{both-left, both-right}
+use Rattle.record.proofs.Below.{all-at}
 use Rattle.text.specs.Hex.{digitOf, isDigit, valueOf, letterOf}
 use Rattle.text.specs.RoundTrip.{upper}
-use Rattle.text.proofs.Laws.{all-at, both-left, both-right}
 
 -- only the last digit counts
 pub letter-last : (n : ℕ) → letterOf n ≡ letterOf (n % 16)

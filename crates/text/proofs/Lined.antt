@@ -10,11 +10,11 @@ use borrow.Author.Tests.{le-leb, lt-leb, leb-true}
 use lib.Dec.{leb, eqb}
 use lib.ListN.{length, getD}
 use Rattle.record.specs.Choose.{if, both}
-use Rattle.text.specs.Table.{allBelow}
+use Rattle.record.specs.Below.{allBelow}
+use Rattle.record.proofs.Choose.{both-left}
 use Rattle.text.specs.Text.{goodLine, digitAt, judgeFrom}
 use Rattle.text.specs.declared.Judged.{Judged}
 use Rattle.text.specs.declared.Judged.the-variants.{Lines, Wrong, Over}
-use Rattle.text.proofs.Laws.{both-left}
 
 -- one step of the judging, by the tests that it makes
 pub judge-end : (s : List ℕ) (k n : ℕ) → length s ≤ 33 * n → judgeFrom s k n ≡ Lines n

@@ -7,8 +7,9 @@ use native.Mathlib.Numerals.{add-one}
 use native.Mathlib.Omega.{arith}
 use borrow.Author.Tests.{lt-ltb, le-ltb, le-leb, lt-leb}
 use lib.ListN.{length, getD}
-use Rattle.text.specs.Table.{allBelow}
-use Rattle.text.proofs.Laws.{both-false, all-false}
+use Rattle.record.specs.Below.{allBelow}
+use Rattle.record.proofs.Choose.{both-false}
+use Rattle.record.proofs.Below.{all-false}
 use Rattle.ticks.specs.Budget.{isDecimal, decimalOf, budgetOf}
 use Rattle.ticks.specs.declared.budget.Budget.the-variants.{Steps, Wrong}
 
@@ -40,7 +41,7 @@ unfolding budgetOf
 budget-large word i h l =
     let e : length word - (i + 1) + (i + 1) ≡ length word = omega arith in
     let g : decimalOf word (i + 1) ≤ decimalOf word (length word) = rw e at (decimal-grows word (i + 1) (length word - (i + 1))) in
-    simp (lt-ltb 0 (length word) (omega arith), lt-leb (decimalOf word (length word)) 18446744073709551615 (omega arith), both-false (allBelow (isDecimal word) (length word)) false refl)
+    simp (lt-ltb 0 (length word) (omega arith), lt-leb (decimalOf word (length word)) 18446744073709551615 (omega arith), both-false (allBelow (isDecimal word) (length word)))
 
 pub budget-done : (word : List ℕ) (i : ℕ) {n : ℕ} → 0 < length word → i ≡ length word → allBelow (isDecimal word) i ≡ true → n ≡ decimalOf word i → n ≤ 18446744073709551615 → Steps n ≡ budgetOf word
 unfolding budgetOf

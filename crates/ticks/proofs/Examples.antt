@@ -2,7 +2,7 @@
 use mathlib.Core.Path.{_≡_, refl}
 use mathlib.Core.List.{List, [], _∷_}
 use Prim.Native.Nat.{ℕ}
-use Rattle.text.specs.Table.{allBelow}
+use Rattle.record.specs.Below.{allBelow}
 use Rattle.ticks.specs.Budget.{decimalOf, budgetOf}
 use Rattle.ticks.specs.declared.budget.Budget.the-variants.{Steps, Wrong}
 

@@ -5,7 +5,7 @@ use mathlib.Core.List.{List}
 use lib.Dec.{ltb, leb}
 use lib.ListN.{length, getD}
 use Rattle.record.specs.Choose.{if, both, among}
-use Rattle.text.specs.Table.{allBelow}
+use Rattle.record.specs.Below.{allBelow}
 use Rattle.ticks.specs.declared.budget.Budget.{Budget}
 use Rattle.ticks.specs.declared.budget.Budget.the-variants.{Steps, Wrong}
 

@@ -11,24 +11,10 @@ use text::Filled;
 use translator::Translated;
 ghost use Prim.Native.Nat.{_<_, _≤_};
 ghost use lib.ListN.{length};
-ghost use Rattle.io.specs.Counts.{Counts};
 ghost use Rattle.record.specs.Bytes.{mostRecords};
 
 mod budget;
 mod lines;
-
-// How many bytes of the file came: none if it will not open.
-fn read_file(buffer: &mut [u8]) -> usize
-    ensures { λ r. ⌜ Counts r (now (buffer .exit)) ⌝ }
-{
-    let file = os::open_read(b"BOOK.HEX");
-    if file < 0 {
-        return 0;
-    }
-    let n = io::read_full(file, buffer);
-    libc::close(file);
-    n
-}
 
 // Argument i as a budget. The system takes no argument that is longer than the buffer.
 fn argument(i: usize) -> Budget {
@@ -173,7 +159,7 @@ fn main() {
     }
     let mut book = [0u8; 33001];
     let mut request = [0u8; 2113];
-    let n = read_file(&mut book);
+    let n = file::read_book_file(&mut book);
     let m = io::read_full(STDIN_FILENO, &mut request);
     run_texts(&book[..n], &request[..m], count);
 }

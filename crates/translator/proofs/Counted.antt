@@ -1,6 +1,6 @@
 -- What is read from bytes is made of no more than the records there are, holds no more obligations than obligation records, and nests no deeper
 -- than the forest. Assumes nothing.
-use Prim.Native.Nat.{ℕ, zero, suc, _+_, _-_, _*_, _/_, _%_, _≤_, _<_, max}
+use Prim.Native.Nat.{ℕ, zero, suc, _+_, _-_, _/_, _≤_, _<_, max}
 use mathlib.Core.Path.{_≡_, refl, sym, ap, _∙_}
 use mathlib.Core.Bool.{Bool, true, false}
 use mathlib.Core.List.{List, [], _∷_}
@@ -9,10 +9,10 @@ use lib.ListN.{length}
 use native.Mathlib.Omega.{arith}
 use borrow.Author.Tests.{ne-eqb, eqb-true}
 use Rattle.record.specs.Choose.{if, either}
-use Rattle.record.specs.Bytes.{size, byteOf, bigOf}
+use Rattle.record.specs.Bytes.{size, byteOf}
 use Rattle.record.specs.Forest.{Forest, none, node, spanIn, growF, forest}
 use Rattle.record.proofs.Forests.{span-pos, span-le}
-use Rattle.meaning.specs.Policy.{Some, last, more, Conjunction, Section, Target, Condition, compares, all, any, not, Conditions, noPart, part, When, always, whenever, Rule, Obligation, Tree, policy, set, Trees, noTree, tree}
+use Rattle.meaning.specs.Policy.{compares, all, any, Conditions, noPart, part, whenever, Obligation, Tree, policy, set, Trees, noTree, tree}
 use Rattle.meaning.specs.Meaning.{same}
 use Rattle.meaning.specs.Reading.{isKind, choiceAt, matchAt, comparisonAt, rowOf, childrenAt, conjunctionAt, sectionAt, targetIn, notAt, conditionAt, conditionsIn, whenIn, ruleAt, rulesIn, obligationAt, obligationsIn, rulesBy, policiesBy, treeAt, treesIn, bookOf}
 use Rattle.meaning.specs.declared.Effect.{Effect}

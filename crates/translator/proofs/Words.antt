@@ -1,6 +1,6 @@
 -- From entries to numbers: what a tree's programme is made of, and where the numbers of each entry stand. Assumes nothing.
 use Prim.Native.Nat.{ℕ, zero, suc, _+_, _-_, _≤_, _<_}
-use mathlib.Core.Path.{_≡_, refl, sym, subst, ap, _∙_}
+use mathlib.Core.Path.{_≡_, refl, subst, ap, _∙_}
 use mathlib.Core.Bool.{Bool, true, false}
 use mathlib.Core.List.{List, [], _∷_, _++_, append-nil, append-assoc}
 use lib.ListN.{length, replicate, length-append, length-replicate, getD, drop}
@@ -10,18 +10,16 @@ use native.Mathlib.Omega.{arith}
 use native.Mathlib.Nat.{zero-add, suc-add}
 use borrow.Author.Tests.{ltb-true, ltb-false}
 use Rattle.record.specs.Choose.{if}
-use Rattle.meaning.specs.Policy.{Some, last, more, Conjunction, Section, Target, Condition, compares, all, any, not, Conditions, noPart, part, When, always, whenever, Rule, Obligation, Tree, policy, set, Trees, noTree, tree}
-use Rattle.meaning.specs.Meaning.{overRules, overPolicies, same}
-use Rattle.meaning.specs.declared.Effect.{Effect}
-use Rattle.meaning.specs.declared.Effect.the-variants.{Permits, Denies}
+use Rattle.meaning.specs.Policy.{last, more, Conjunction, Section, Target, Condition, compares, all, any, not, Conditions, noPart, part, When, always, whenever, Rule, Obligation, Tree, policy, set, Trees, noTree, tree}
+use Rattle.meaning.specs.Meaning.{overRules, overPolicies}
 use Rattle.meaning.specs.declared.Algorithm.{Algorithm}
 use Rattle.meaning.specs.declared.Algorithm.the-variants.{First}
 use Rattle.algorithm.specs.Fold.{isOnly}
-use Rattle.programme.specs.Entry.{Entry, begin, match, further, opens, compare, close, rule, enter, applies, conclude, oblige, leave, finish, extra, reach}
+use Rattle.programme.specs.Entry.{Entry, begin, match, further, opens, compare, close, rule, enter, applies, conclude, oblige, leave, finish, extra}
 use Rattle.programme.specs.declared.Op.{Op}
 use Rattle.programme.specs.declared.Op.the-variants.{All, Any, Not}
-use Rattle.translator.specs.Code.{codeConjunction, codeSection, codeTarget, codeCondition, codeConditions, codeWhen, codeRule, codeRules, codeObligations, codeApplies, codeBody, codeWithin, codeShell, codeTree, codeTrees, algorithmOf, codeTop, owns, obligations, obligationsAll, programme, translated, inNumbers}
-use Rattle.translator.specs.Flat.{isFurther, Codes}
+use Rattle.translator.specs.Code.{codeConjunction, codeSection, codeTarget, codeCondition, codeConditions, codeWhen, codeRule, codeRules, codeObligations, codeApplies, codeBody, codeWithin, codeShell, codeTree, codeTrees, algorithmOf, codeTop, programme, inNumbers}
+use Rattle.translator.specs.Flat.{isFurther}
 use Rattle.programme.specs.Layout.{wordsOf}
 use Rattle.meaning.specs.declared.Test.{Test}
 use Rattle.translator.proofs.Holding.{Each, Every, InTarget, InCondition, InConditions, InWhen, InRule, InObligations, InTree, InTrees}

@@ -2,7 +2,8 @@ use lib.ListN.{length-take}
 use mathlib.Core.Path.{_∙_}
 use native.Mathlib.Omega.{arith}
 use borrow.Author.Needs.{needs}
-use Rattle.decide.proofs.Laws.{read-fits, refusal-stands, printed-book, printed-request, printed-decided}
+use Rattle.text.proofs.Accepted.{read-fits}
+use Rattle.decide.proofs.Laws.{refusal-stands, printed-book, printed-request, printed-decided}
 use Rattle.decide.proofs.decided.Statement.{statement}
 use Rattle.decide.proofs.decided.Tie as tie
 

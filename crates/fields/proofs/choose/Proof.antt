@@ -1,4 +1,4 @@
-use Rattle.fields.proofs.Laws.{below-among, above-among, in-among}
+use Rattle.record.proofs.Choose.{below-among, above-among, in-among}
 use Rattle.fields.proofs.choose.Statement.{statement}
 use Rattle.fields.proofs.choose.Tie as tie
 

@@ -4,11 +4,11 @@ use borrow.Author.Needs.{needs}
 use Rattle.rewrite.proofs.main.Statement.{statement}
 use Rattle.rewrite.proofs.main.Tie as tie
 
-slice-aggregate-read-file : tie.Need-slice-aggregate-read-file
-slice-aggregate-read-file c = search needs
+slice-aggregate-read-book-file : tie.Need-slice-aggregate-read-book-file
+slice-aggregate-read-book-file c = search needs
 
-read-file-requires : tie.Need-read-file-requires
-read-file-requires c κs = search needs
+read-book-file-requires : tie.Need-read-book-file-requires
+read-book-file-requires c κs = search needs
 
 array-share-prefix-text : tie.Need-array-share-prefix-text
 array-share-prefix-text c = search needs
@@ -41,8 +41,8 @@ pub main-spec : {M : Type 1} → statement M
 main-spec =
     tie.close
     (tie.spec
-    slice-aggregate-read-file
-    read-file-requires
+    slice-aggregate-read-book-file
+    read-book-file-requires
     array-share-prefix-text
     slice-aggregate-rewritten
     slice-aggregate-rewritten-2

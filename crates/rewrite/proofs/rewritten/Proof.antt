@@ -4,7 +4,8 @@ use native.Mathlib.Omega.{arith}
 use borrow.Author.Needs.{needs}
 use Rattle.line.specs.Line.{refusalLine}
 use Rattle.line.proofs.Laws.{length-refusal, put-found, places-within}
-use Rattle.rewrite.proofs.Laws.{read-fits, write-fits, printed-refusal, never-refused, printed-again}
+use Rattle.text.proofs.Accepted.{read-fits}
+use Rattle.rewrite.proofs.Laws.{write-fits, printed-refusal, never-refused, printed-again}
 use Rattle.rewrite.proofs.rewritten.Statement.{statement}
 use Rattle.rewrite.proofs.rewritten.Tie as tie
 
@@ -15,10 +16,10 @@ enum-known-m : tie.Need-enum-known-m
 enum-known-m c = search needs
 
 slice-reshare-prefix-write-book : tie.Need-slice-reshare-prefix-write-book
-slice-reshare-prefix-write-book c = omega (arith, read-fits _ _ _ (c .before .before .before .before .before .read-book .ensures .0) (c .before .m .given .1))
+slice-reshare-prefix-write-book c = omega (arith, read-fits _ _ _ _ (c .before .before .before .before .before .read-book .ensures .0) (c .before .m .given .1))
 
 slice-aggregate-write-book : tie.Need-slice-aggregate-write-book
-slice-aggregate-write-book c = simp length-take (omega (arith, read-fits _ _ _ (c .before .before .before .before .before .before .read-book .ensures .0) (c .before .before .m .given .1)))
+slice-aggregate-write-book c = simp length-take (omega (arith, read-fits _ _ _ _ (c .before .before .before .before .before .before .read-book .ensures .0) (c .before .before .m .given .1)))
 
 write-book-requires : tie.Need-write-book-requires
 write-book-requires c κs = search needs

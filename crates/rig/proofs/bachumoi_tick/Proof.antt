@@ -1,4 +1,3 @@
-use mathlib.Core.Path.{_≡_}
 use borrow.Author.Needs.{needs}
 use Rattle.rig.proofs.Laws.{refused-line, running-fits, finished-fits, tick-refused, tick-running, tick-finished}
 use Rattle.rig.proofs.bachumoi_tick.Statement.{statement}

@@ -4,9 +4,9 @@ use mathlib.Core.Path.{_≡_, refl, sym, _∙_}
 use mathlib.Core.Bool.{true}
 use Prim.Native.Nat.{_≤_, _-_}
 use borrow.Author.Tests.{not-true, not-false}
-use Rattle.text.specs.Table.{allBelow}
+use Rattle.record.specs.Below.{allBelow}
+use Rattle.record.proofs.Below.{all-more, all-false}
 use Rattle.text.specs.Text.{digitAt}
-use Rattle.text.proofs.Laws.{all-more, all-false}
 use Rattle.text.proofs.all_digits.Statement.{statement}
 use Rattle.text.proofs.all_digits.Tie as tie
 

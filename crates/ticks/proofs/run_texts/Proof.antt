@@ -1,8 +1,7 @@
 use lib.ListN.{length-take}
-use mathlib.Core.Path.{sym, _∙_}
 use native.Mathlib.Omega.{arith}
 use borrow.Author.Needs.{needs}
-use Rattle.text.proofs.Accepted.{was-read}
+use Rattle.text.proofs.Accepted.{read-fits}
 use Rattle.ticks.proofs.run_texts.Statement.{statement}
 use Rattle.ticks.proofs.run_texts.Tie as tie
 
@@ -28,19 +27,19 @@ array-share-prefix-records : tie.Need-array-share-prefix-records
 array-share-prefix-records c =
     let read-book = c .before .before .before .before .before .before .before .before .before .before .read-book in
     let n = c .before .before .before .before .before .before .before .n in
-    omega (arith, was-read _ _ _ _ (sym (read-book .ensures .0) ∙ n .given .1) .fits)
+    omega (arith, read-fits _ _ _ _ (read-book .ensures .0) (n .given .1))
 
 slice-aggregate-run-records : tie.Need-slice-aggregate-run-records
 slice-aggregate-run-records c =
     let read-book = c .before .before .before .before .before .before .before .before .before .before .before .read-book in
     let n = c .before .before .before .before .before .before .before .before .n in
-    simp length-take (omega (arith, was-read _ _ _ _ (sym (read-book .ensures .0) ∙ n .given .1) .fits))
+    simp length-take (omega (arith, read-fits _ _ _ _ (read-book .ensures .0) (n .given .1)))
 
 array-share-prefix-entries : tie.Need-array-share-prefix-entries
-array-share-prefix-entries c = omega (arith, was-read _ _ _ _ (sym (c .before .before .before .before .before .read-request .ensures .0) ∙ c .before .before .m .given .1) .fits)
+array-share-prefix-entries c = omega (arith, read-fits _ _ _ _ (c .before .before .before .before .before .read-request .ensures .0) (c .before .before .m .given .1))
 
 slice-aggregate-run-records-2 : tie.Need-slice-aggregate-run-records-2
-slice-aggregate-run-records-2 c = simp length-take (omega (arith, was-read _ _ _ _ (sym (c .before .before .before .before .before .before .read-request .ensures .0) ∙ c .before .before .before .m .given .1) .fits))
+slice-aggregate-run-records-2 c = simp length-take (omega (arith, read-fits _ _ _ _ (c .before .before .before .before .before .before .read-request .ensures .0) (c .before .before .before .m .given .1)))
 
 run-records-requires : tie.Need-run-records-requires
 run-records-requires c κs = search needs

@@ -1,4 +1,5 @@
-use Rattle.judge.proofs.Fits.{no-false, fit-end}
+use Rattle.record.proofs.Choose.{no-false}
+use Rattle.judge.proofs.Fits.{fit-end}
 use Rattle.judge.proofs.Children.{conjunction-more}
 use Rattle.judge.proofs.Rows.{row-none}
 use Rattle.judge.specs.Row.{Row}

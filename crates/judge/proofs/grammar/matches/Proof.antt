@@ -1,5 +1,5 @@
+use Rattle.record.proofs.Choose.{no-false}
 use Rattle.judge.proofs.Children.{match-more}
-use Rattle.judge.proofs.Fits.{no-false}
 use Rattle.judge.proofs.Rows.{row-none}
 use Rattle.judge.specs.Row.{Row}
 use Rattle.judge.specs.Place.{mostDepth}

@@ -1,5 +1,5 @@
+use Rattle.record.proofs.Choose.{no-false}
 use Rattle.judge.proofs.Parts.{without-condition, with-condition}
-use Rattle.judge.proofs.Fits.{no-false}
 use borrow.Author.Tests.{eqb-true}
 use mathlib.Core.Path.{refl}
 use native.Mathlib.Omega.{arith}

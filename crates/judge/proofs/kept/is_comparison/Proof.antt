@@ -1,5 +1,6 @@
 use native.Mathlib.Omega.{arith}
-use Rattle.judge.proofs.Fits.{no-false, kind-is, fit, comparison-choice, among-low}
+use Rattle.record.proofs.Choose.{no-false}
+use Rattle.judge.proofs.Fits.{kind-is, fit, comparison-choice, among-low}
 use borrow.Author.Tests.{not-false}
 use borrow.Author.Needs.{needs}
 use Rattle.judge.proofs.kept.is_comparison.Statement.{statement}

@@ -1,5 +1,6 @@
+use Rattle.record.proofs.Choose.{no-false}
 use Rattle.fields.specs.Fields.{kindOf}
-use Rattle.judge.proofs.Fits.{no-false, kind-is, fit}
+use Rattle.judge.proofs.Fits.{kind-is, fit}
 use borrow.Author.Tests.{not-false}
 use borrow.Author.Needs.{needs}
 use Rattle.judge.proofs.kept.is_logic.Statement.{statement}

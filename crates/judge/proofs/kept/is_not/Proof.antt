@@ -1,4 +1,5 @@
-use Rattle.judge.proofs.Fits.{no-false, kind-is, fit, not-choice}
+use Rattle.record.proofs.Choose.{no-false}
+use Rattle.judge.proofs.Fits.{kind-is, fit, not-choice}
 use borrow.Author.Tests.{not-false}
 use borrow.Author.Needs.{needs}
 use Rattle.judge.proofs.kept.is_not.Statement.{statement}

@@ -4,10 +4,11 @@ use mathlib.Core.Bool.{true}
 use mathlib.Core.Path.{_≡_, refl}
 use native.Mathlib.Omega.{arith}
 use borrow.Author.Needs.{needs}
+use Rattle.record.specs.Below.{allBelow}
+use Rattle.record.proofs.Choose.{in-among, below-among, above-among}
+use Rattle.record.proofs.Below.{all-more}
 use Rattle.ticks.proofs.Decimal.{decimal-none, decimal-more, budget-empty, budget-other, budget-large, budget-done}
 use Rattle.ticks.specs.Budget.{isDecimal, decimalOf}
-use Rattle.text.proofs.Laws.{all-more, in-range, below-range, above-range}
-use Rattle.text.specs.Table.{allBelow}
 use Rattle.ticks.proofs.budget.budget_in.Statement.{statement}
 use Rattle.ticks.proofs.budget.budget_in.Tie as tie
 
@@ -28,10 +29,10 @@ shared-slice-read-c : tie.Need-shared-slice-read-c Inv-loop μ-loop
 shared-slice-read-c c = search needs
 
 returns-2 : tie.Need-returns-2 Inv-loop μ-loop
-returns-2 c = budget-other _ (c .before .before .before .loop .i) (search needs) (below-range 48 57 _ (c .if2 .taken))
+returns-2 c = budget-other _ (c .before .before .before .loop .i) (search needs) (below-among 48 57 _ (c .if2 .taken))
 
 returns-3 : tie.Need-returns-3 Inv-loop μ-loop
-returns-3 c = budget-other _ (c .before .before .before .before .loop .i) (search needs) (above-range 48 57 _ (c .if3 .taken))
+returns-3 c = budget-other _ (c .before .before .before .before .loop .i) (search needs) (above-among 48 57 _ (c .if3 .taken))
 
 cast-digit : tie.Need-cast-digit Inv-loop μ-loop
 cast-digit c = search needs
@@ -63,7 +64,7 @@ loop-again c =
     let loop = c .before .before .before .before .before .loop in
     let if2 = c .before .before .if2 in
     let if3 = c .before .if3 in
-    (search needs, search needs, all-more (isDecimal (args .word .now)) (loop .i) (loop .inv .2) (in-range 48 57 _ (if2 .left) (if3 .left)), omega (arith, decimal-more (args .word .now) (loop .i), loop .inv .3), search needs)
+    (search needs, search needs, all-more (isDecimal (args .word .now)) (loop .i) (loop .inv .2) (in-among 48 57 _ (if2 .left) (if3 .left)), omega (arith, decimal-more (args .word .now) (loop .i), loop .inv .3), search needs)
 
 returns-5 : tie.Need-returns-5 Inv-loop μ-loop
 returns-5 c = budget-done _ (c .before .loop .i) (c .before .loop .inv .0) (omega arith) (c .before .loop .inv .2) (c .before .loop .inv .3) (c .before .loop .inv .4)
