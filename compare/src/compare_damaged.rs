@@ -48,6 +48,8 @@ pub fn case(machine: &Machine, random: &mut Random, tally: &mut Tally) -> Result
         "random state" => state.iter_mut().for_each(|number| *number = sparse(random)),
         _ => damage_programme(random, &mut programme, how),
     }
+    // A place that is written with what it held keeps bits that no call sees, and a walk in single steps does not.
+    machine.rig.cut(&mut state);
     tally.met("damage", how);
     Walk { bench: Bench::new(machine.rig, &programme, &request), start: state }.check(random, tally)
 }

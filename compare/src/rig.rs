@@ -118,6 +118,10 @@ mod calls {
         fn fields(&self) -> &'static [Field] {
             &FIELDS
         }
+
+        fn cut(&self, state: &mut [u64]) {
+            state.iter_mut().skip(NUMBERS).for_each(|place| *place &= 0xFFFF);
+        }
     }
 }
 

@@ -53,4 +53,6 @@ pub trait Rig: Sync {
     fn tick(&self, programme: &[u64], request: &[u8], state: &mut [u64], budget: u64, out: &mut [u16]) -> Tick;
     /// The fields of the published layout.
     fn fields(&self) -> &'static [Field];
+    /// Cuts the numbers of a state to the bits that a call can see.
+    fn cut(&self, _state: &mut [u64]) {}
 }
