@@ -5,27 +5,13 @@ use borrow.Author.Tests.{not-false}
 use borrow.Author.Needs.{needs}
 use Rattle.judge.proofs.kept.is_policy.Statement.{statement}
 use Rattle.judge.proofs.kept.is_policy.Tie as tie
-use Rattle.judge.proofs.kept.is_policy.Reads as reads
-use Rattle.judge.proofs.kept.is_policy.Lts as lts
-use Rattle.fields.proofs.plain_ok.Reads as plain-ok-reads
-use Rattle.judge.proofs.kept.is.Reads as is-reads
 
--- src/kept.rt:41:9
-is-requires : tie.Need-is-requires
-is-requires c κs = search needs
-
--- src/kept.rt:42:9
 returns : tie.Need-returns
 returns c = λ e. no-false e
 
--- src/kept.rt:44:5
-plain-ok-requires : tie.Need-plain-ok-requires
-plain-ok-requires c κs = search needs
-
--- src/kept.rt:37:1
 returns-2 : tie.Need-returns-2
 unfolding kindOf
 returns-2 c = fit _ _ (kind-is _ _ 2 1 3 (c .before .before .is .ensures) (not-false _ (c .before .if1 .left)) (λ x h. rw h)) (c .plain-ok .ensures)
 
 pub is-policy-spec : {M : Type 1} → statement M
-is-policy-spec = tie.close (tie.spec is-requires returns plain-ok-requires returns-2)
+is-policy-spec = tie.close (tie.spec (λ c κs. search needs) returns (λ c κs. search needs) returns-2)
