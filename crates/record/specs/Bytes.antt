@@ -1,6 +1,6 @@
 -- Records and entries as bytes, `size` to each, and numbers in them, big-endian. A record is named by its place, from 0: line k is place k - 1.
 -- Assumes nothing.
-use Prim.Native.Nat.{ℕ, zero, suc, _+_, _*_}
+use Prim.Native.Nat.{ℕ, zero, suc, _+_, _*_, _/_, _%_}
 use mathlib.Core.List.{List}
 use lib.ListN.{getD}
 
@@ -27,3 +27,7 @@ bigOf b at (suc n) = bigOf b at n * 256 + getD b (at + n) 0
 -- the span that record i states
 unfoldable pub spanOf : List ℕ → ℕ → ℕ
 spanOf b i = byteOf b i 2 * 256 + byteOf b i 3
+
+-- a number of four bytes with its bytes in the other order
+unfoldable pub turned : ℕ → ℕ
+turned w = w % 256 * 16777216 + w / 256 % 256 * 65536 + w / 65536 % 256 * 256 + w / 16777216

@@ -2,7 +2,7 @@
 ghost use mathlib.Core.Path.{_≡_};
 ghost use Prim.Native.Nat.{_+_, _*_, _<_, _≤_};
 ghost use lib.ListN.{length};
-ghost use Rattle.record.specs.Bytes.{byteOf, spanOf, bigOf};
+ghost use Rattle.record.specs.Bytes.{byteOf, spanOf, bigOf, turned};
 ghost use Rattle.record.specs.Forest.{spanIn};
 ghost use Rattle.record.specs.Refusals.{badLine, tooMany, noRecord, cutShort, badField, badPlace, noRoom, badRun, refusalNumber};
 
@@ -116,10 +116,10 @@ fn wide16(x: u8) -> u16
     x as u16
 }
 
-fn wide64(x: u8) -> u64
+fn wide32(x: u8) -> u32
     ensures { λ r. ⌜ (r ≡ x) × (r < 256) ⌝ }
 {
-    x as u64
+    x as u32
 }
 
 // Byte k of record i.
@@ -153,12 +153,19 @@ pub fn span_in(book: &[u8], i: usize, left: usize) -> usize
     s
 }
 
-// Four bytes as a wide number; written so, eight of them are read at once.
-fn four(s: &[u8], at: usize) -> u64
+// Four bytes as a number, the last byte first.
+fn word(s: &[u8], at: usize) -> u32
     requires { ⌜ at + 4 ≤ length (now s) ⌝ }
-    ensures { λ r. ⌜ (r ≡ bigOf (now (s .entry)) at 4) × (r < 4294967296) ⌝ }
+    ensures { λ r. ⌜ turned r ≡ bigOf (now (s .entry)) at 4 ⌝ }
 {
-    ((wide64(s[at]) * 256 + wide64(s[at + 1])) * 256 + wide64(s[at + 2])) * 256 + wide64(s[at + 3])
+    wide32(s[at]) + wide32(s[at + 1]) * 256 + wide32(s[at + 2]) * 65536 + wide32(s[at + 3]) * 16777216
+}
+
+// The same four bytes, the first byte first. A machine reads a word and turns it in one step each, and the compiler knows these two forms.
+fn turn(w: u32) -> u32
+    ensures { λ r. ⌜ r ≡ turned w ⌝ }
+{
+    w % 256 * 16777216 + w / 256 % 256 * 65536 + w / 65536 % 256 * 256 + w / 16777216
 }
 
 // The bytes from a place on as a number: two, four, eight of them.
@@ -173,12 +180,12 @@ pub fn big4(s: &[u8], at: usize) -> u32
     requires { ⌜ at + 4 ≤ length (now s) ⌝ }
     ensures { λ r. ⌜ r ≡ bigOf (now (s .entry)) at 4 ⌝ }
 {
-    four(s, at) as u32
+    turn(word(s, at))
 }
 
 pub fn big8(s: &[u8], at: usize) -> u64
     requires { ⌜ at + 8 ≤ length (now s) ⌝ }
     ensures { λ r. ⌜ r ≡ bigOf (now (s .entry)) at 8 ⌝ }
 {
-    four(s, at) * 4294967296 + four(s, at + 4)
+    big4(s, at) as u64 * 4294967296 + big4(s, at + 4) as u64
 }

@@ -2,16 +2,14 @@
 use mathlib.Core.Path.{_≡_, refl, sym, _∙_}
 use mathlib.Core.Bool.{Bool, true, false}
 use mathlib.Core.List.{List, [], _∷_, _++_}
-use Prim.Native.Nat.{ℕ, suc, _+_, _-_, _*_, _/_, _%_, _≤_, _<_}
+use Prim.Native.Nat.{ℕ, suc, _+_, _-_, _*_, _/_, _≤_, _<_}
 use native.Mathlib.Omega.{arith}
 use native.Mathlib.Nat.{sub-zero}
-use borrow.Author.Tests.{ne-eqb, eq-eqb, eqb-true}
+use borrow.Author.Tests.{ne-eqb, eq-eqb}
 use lib.Dec.{eqb}
 use lib.ListN.{length}
 use Rattle.record.specs.Choose.{if}
-use Rattle.record.specs.Bytes.{size, byteOf, bigOf}
-use Rattle.record.proofs.Choose.{no-false}
-use Rattle.record.proofs.Laws.{big-four}
+use Rattle.record.specs.Bytes.{size, bigOf}
 use Rattle.meaning.specs.Logic.{some}
 use Rattle.meaning.specs.Meaning.{gives, truthOf, matchIn, matchOf, comparisonIn, comparisonOf}
 use Rattle.meaning.specs.Reading.{bagFrom, bagsOf}
@@ -50,17 +48,6 @@ match-not true t v vs h = rw h (told (some (gives t) vs))
     told true = refl
     told false = refl
 match-not false t v vs h = rw h
-
--- what the test of a key says
-pub key-miss : (x key : ℕ) {r : Bool} → r ≡ eqb x key → r ≡ false → x ≡ key → ⊥
-key-miss x key e f z = no-false (sym f ∙ e ∙ eq-eqb x key z)
-
-pub key-hit : (x key : ℕ) {r : Bool} → r ≡ eqb x key → r ≡ true → x ≡ key
-key-hit x key e f = eqb-true x key (sym e ∙ f)
-
--- a key whose last byte is another is another
-pub key-other : (q : List ℕ) (i key : ℕ) → (byteOf q i 3 ≡ key % 256 → ⊥) → byteOf q i 3 < 256 → false ≡ eqb (bigOf q (i * size) 4) key
-key-other q i key n h = sym (ne-eqb (bigOf q (i * size) 4) key (λ z. n (omega (arith, z, big-four q (i * size)))))
 
 -- how the rest of a bag begins
 bag-step : (q : List ℕ) (key total k : ℕ) → k < total

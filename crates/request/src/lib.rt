@@ -2,11 +2,7 @@
 use meaning::Test;
 use meaning::Truth;
 ghost use mathlib.Core.Path.{_≡_};
-ghost use Prim.Native.Nat.{_+_, _*_, _≤_};
-ghost use lib.Dec.{eqb};
-ghost use lib.ListN.{length};
 ghost use Rattle.record.specs.Choose.{if};
-ghost use Rattle.record.specs.Bytes.{size, bigOf};
 ghost use Rattle.meaning.specs.Meaning.{gives, matchOf, comparisonOf};
 ghost use Rattle.meaning.specs.Reading.{bagsOf};
 
@@ -29,18 +25,6 @@ fn absent(must: bool) -> Truth
     Truth::False
 }
 
-// Whether entry i has the key. Most keys differ in their last byte already, which needs no word put together.
-fn has_key(request: &[u8], i: usize, key: u32) -> bool
-    requires { ⌜ (i + 1) * size ≤ length (now request) ⌝ }
-    ensures { λ r. ⌜ r ≡ eqb (bigOf (now (request .entry)) (i * size) 4) key ⌝ }
-{
-    let last = key % 256;
-    if record::byte(request, i, 3) != last as usize {
-        return false;
-    }
-    record::big4(request, i * record::SIZE) == key
-}
-
 // True if some value of the key gives True, else False; an empty bag by must-be-present.
 pub fn matches(request: &[u8], t: Test) -> Truth
     ensures { λ r. ⌜ r ≡ matchOf (bagsOf (now (request .entry))) t ⌝ }
@@ -50,9 +34,8 @@ pub fn matches(request: &[u8], t: Test) -> Truth
     let mut empty = true;
     while k < total {
         let at = k * record::SIZE;
-        let hit = has_key(request, k, t.key);
         k += 1;
-        if !hit {
+        if record::big4(request, at) != t.key {
             continue;
         }
         let given = record::big8(request, at + 8);
@@ -77,9 +60,8 @@ pub fn comparison(request: &[u8], t: Test) -> Truth
     let mut given: u64 = 0;
     while k < total {
         let at = k * record::SIZE;
-        let hit = has_key(request, k, t.key);
         k += 1;
-        if !hit {
+        if record::big4(request, at) != t.key {
             continue;
         }
         if found {

@@ -4,12 +4,12 @@ use mathlib.Core.Bool.{Bool, true, false}
 use mathlib.Core.List.{List, [], _∷_}
 use Prim.Native.Nat.{ℕ, _+_, _-_, _≤_, _<_}
 use native.Mathlib.Omega.{arith}
-use borrow.Author.Tests.{ne-eqb, eqb-false}
+use borrow.Author.Tests.{ne-eqb, eqb-true, eqb-false}
 use lib.Dec.{eqb}
 use Rattle.record.specs.Choose.{if}
 use Rattle.record.specs.Bytes.{byteOf}
 use Rattle.record.specs.Forest.{Forest, none, node, spanIn, forest}
-use Rattle.record.proofs.Forests.{forest-none, forest-step, forest-more}
+use Rattle.record.proofs.Forests.{span-pos, span-le, forest-none, forest-step, forest-more}
 use Rattle.meaning.specs.Logic.{andAll, orAll, notOf}
 use Rattle.meaning.specs.Policy.{Conditions, compares, all, any, OverRules, rulesDeny, rulesPermit, rulesFirst}
 use Rattle.meaning.specs.Meaning.{Bags, matchOf, comparisonOf, conditionOf, conditionsOf, each, conjunctionOf, sectionOf, sectionsOf, targetOf, under, decisionOf, whenOf, ruleOf, combine, overRules, ruleChild, ruleChildren}
@@ -24,7 +24,6 @@ use Rattle.meaning.specs.declared.Algorithm.{Algorithm}
 use Rattle.algorithm.specs.Fold.{start, absorb, settled, result, isOnly}
 use Rattle.algorithm.specs.declared.Acc.{Acc}
 use Rattle.algorithm.proofs.Walk.{takes, walk, result-right}
-use Rattle.rules.proofs.Loops.{ands, ors, alone}
 
 -- the truths of the records of a forest, each read with its children
 unfoldable pub truths : {A : Type 0} → (A → Truth) → (ℕ → Forest → A) → Forest → List Truth
@@ -37,35 +36,38 @@ unfolding rowOf truths
 each-row f read i kids none = refl
 each-row f read i kids (node j below rest) = ap (λ (ts : List Truth). f (read i kids) ∷ ts) (each-row f read j below rest)
 
--- the children of record i, where there is one
-each-child : {A : Type 0} (f : A → Truth) (read : ℕ → Forest → A) (b : List ℕ) (i s : ℕ) → 0 < s → (s ≡ 1 → ⊥)
-    → truths f read (forest b (i + 1) (s - 1)) ≡ each f (childrenAt read i (forest b (i + 1) (s - 1)))
+-- the children of record i, from `a` on; without one it stands for its own child
+each-child : {A : Type 0} (f : A → Truth) (read : ℕ → Forest → A) (b : List ℕ) (i s : ℕ) {a : ℕ} → 0 < s → a ≡ if (eqb s 1) i (i + 1)
+    → truths f read (forest b a (i + s - a)) ≡ each f (childrenAt read i (forest b (i + 1) (s - 1)))
 unfolding childrenAt truths
-each-child f read b i s h z = rw (forest-step b (i + 1) (s - 1) (omega arith)) (sym (each-row f read (i + 1) _ _))
+each-child f read b i s {a} h e = go (eqb s 1) refl
+  where
+    go : (t : Bool) → eqb s 1 ≡ t → truths f read (forest b a (i + s - a)) ≡ each f (childrenAt read i (forest b (i + 1) (s - 1)))
+    go true z =
+        let one : s ≡ 1 = eqb-true s 1 z in
+        let at : a ≡ i = rw z at e in
+        let left : i + s - a ≡ 1 = omega arith in
+        let span : spanIn b i 1 ≡ 1 = omega (arith, span-pos b i 1 (omega arith), span-le b i 1) in
+        rw (left, at, one, forest-step b i 1 (omega arith), span, forest-none b (i + 1) 0 refl)
+    go false z =
+        let many : s ≡ 1 → ⊥ = eqb-false s 1 z in
+        let at : a ≡ i + 1 = rw z at e in
+        let left : i + s - a ≡ s - 1 = omega arith in
+        rw (left, at, forest-step b (i + 1) (s - 1) (omega arith)) (sym (each-row f read (i + 1) _ _))
 
 -- the match at a record, whatever stands below it
 unfoldable pub matchRead : List ℕ → ℕ → Forest → Test
 matchRead b i kids = matchAt b i
 
--- a conjunction, a section: with children, and without
-module _ (b : List ℕ) (g : Bags) (i s : ℕ) where
-  pub conjunction-many : 0 < s → (s ≡ 1 → ⊥)
-      → andAll (truths (matchOf g) (matchRead b) (forest b (i + 1) (s - 1))) ≡ conjunctionOf g (conjunctionAt b i (forest b (i + 1) (s - 1)))
+-- a conjunction, a section: all their children
+module _ (b : List ℕ) (g : Bags) (i s : ℕ) {a : ℕ} (h : 0 < s) (e : a ≡ if (eqb s 1) i (i + 1)) where
+  pub conjunction-all : andAll (truths (matchOf g) (matchRead b) (forest b a (i + s - a))) ≡ conjunctionOf g (conjunctionAt b i (forest b (i + 1) (s - 1)))
   unfolding conjunctionOf conjunctionAt matchRead
-  conjunction-many h z = ap andAll (each-child (matchOf g) (λ (j : ℕ) (below : Forest). matchAt b j) b i s h z)
+  conjunction-all = ap andAll (each-child (matchOf g) (λ (j : ℕ) (below : Forest). matchAt b j) b i s h e)
 
-  pub conjunction-one : {x : Test} {t : Truth} → s ≡ 1 → x ≡ matchAt b i → t ≡ matchOf g x → t ≡ conjunctionOf g (conjunctionAt b i (forest b (i + 1) (s - 1)))
-  unfolding conjunctionOf conjunctionAt childrenAt
-  conjunction-one z ex et = rw (forest-none b (i + 1) (s - 1) (omega arith), et, ex) (sym (alone ands (matchOf g (matchAt b i))))
-
-  pub section-many : 0 < s → (s ≡ 1 → ⊥)
-      → orAll (truths (conjunctionOf g) (conjunctionAt b) (forest b (i + 1) (s - 1))) ≡ sectionOf g (sectionAt b i (forest b (i + 1) (s - 1)))
+  pub section-all : orAll (truths (conjunctionOf g) (conjunctionAt b) (forest b a (i + s - a))) ≡ sectionOf g (sectionAt b i (forest b (i + 1) (s - 1)))
   unfolding sectionOf sectionAt
-  section-many h z = ap orAll (each-child (conjunctionOf g) (conjunctionAt b) b i s h z)
-
-  pub section-one : {t : Truth} → s ≡ 1 → t ≡ conjunctionOf g (conjunctionAt b i (forest b (i + 1) 0)) → t ≡ sectionOf g (sectionAt b i (forest b (i + 1) (s - 1)))
-  unfolding sectionOf sectionAt childrenAt
-  section-one z et = rw (forest-none b (i + 1) (s - 1) (omega arith), et, forest-none b (i + 1) 0 refl) (sym (alone ors _))
+  section-all = ap orAll (each-child (conjunctionOf g) (conjunctionAt b) b i s h e)
 
 -- no records are left
 module _ (b : List ℕ) (i left : ℕ) (h : left ≤ 0) where

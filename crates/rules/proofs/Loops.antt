@@ -41,10 +41,6 @@ unfoldable pub then : (List Truth → Truth) → (Truth → Truth → Truth) →
 then many two a ts = two a (many ts)
 
 module _ {many : List Truth → Truth} {two : Truth → Truth → Truth} {start sure : Truth} (j : Joins many two start sure) where
-  -- a single part
-  pub alone : (t : Truth) → many (t ∷ []) ≡ t
-  alone t = j .cons t [] ∙ ap (two t) (j .none) ∙ j .unit t
-
   module _ (a : Truth) {t w : Truth} {xs ts : List Truth} (e : xs ≡ t ∷ ts) where
     pub turn : {u : Truth} → u ≡ two a t → then many two a xs ≡ w → then many two u ts ≡ w
     unfolding then

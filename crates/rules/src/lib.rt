@@ -5,7 +5,8 @@ use meaning::Effect;
 use meaning::Test;
 use meaning::Truth;
 ghost use mathlib.Core.Path.{_≡_};
-ghost use Prim.Native.Nat.{_+_, _*_, _-_, _<_, _≤_};
+ghost use Prim.Native.Nat.{_+_, _*_, _-_, _^_, _<_, _≤_};
+ghost use lib.Dec.{eqb};
 ghost use lib.ListN.{length};
 ghost use Rattle.record.specs.Choose.{if};
 ghost use Rattle.record.specs.Forest.{forest};
@@ -66,16 +67,24 @@ pub fn comparison_at(book: &[u8], i: usize) -> Test
     test_at(book, i, compares_by(choice))
 }
 
-// And over the matches of the conjunction at record i. Without one it stands for its own match.
+// Where the children of record i begin. Without one it stands for its own child.
+fn children_at(i: usize, s: usize) -> usize
+    requires { ⌜ (0 < s) × (i + s < 2 ^ 64) ⌝ }
+    ensures { λ r. ⌜ (r ≡ if (eqb s 1) i (i + 1)) × (r < i + s) ⌝ }
+{
+    if s == 1 {
+        return i;
+    }
+    i + 1
+}
+
+// And over the matches of the conjunction at record i.
 fn conjunction(book: &[u8], request: &[u8], i: usize, s: usize) -> Truth
     requires { ⌜ (0 < s) × ((i + s) * 16 ≤ length (now book)) ⌝ }
     ensures { λ r. ⌜ r ≡ conjunctionOf (bagsOf (now (request .entry))) (conjunctionAt (now (book .entry)) i (forest (now (book .entry)) (i + 1) (s - 1))) ⌝ }
 {
-    if s == 1 {
-        return request::matches(request, match_at(book, i));
-    }
-    let mut at = i + 1;
-    let mut left = s - 1;
+    let mut at = children_at(i, s);
+    let mut left = i + s - at;
     let mut acc = Truth::True;
     while 0 < left {
         let n = record::span_in(book, at, left);
@@ -90,16 +99,13 @@ fn conjunction(book: &[u8], request: &[u8], i: usize, s: usize) -> Truth
     acc
 }
 
-// Or over the conjunctions of the section at record i. Without one it stands for its own conjunction.
+// Or over the conjunctions of the section at record i.
 fn section(book: &[u8], request: &[u8], i: usize, s: usize) -> Truth
     requires { ⌜ (0 < s) × ((i + s) * 16 ≤ length (now book)) ⌝ }
     ensures { λ r. ⌜ r ≡ sectionOf (bagsOf (now (request .entry))) (sectionAt (now (book .entry)) i (forest (now (book .entry)) (i + 1) (s - 1))) ⌝ }
 {
-    if s == 1 {
-        return conjunction(book, request, i, 1);
-    }
-    let mut at = i + 1;
-    let mut left = s - 1;
+    let mut at = children_at(i, s);
+    let mut left = i + s - at;
     let mut acc = Truth::False;
     while 0 < left {
         let n = record::span_in(book, at, left);

@@ -1,5 +1,4 @@
 use borrow.Author.Needs.{needs}
-use borrow.Author.Tests.{not-true, not-false}
 use native.Mathlib.Omega.{arith}
 use mathlib.Core.Path.{_≡_, refl}
 use Prim.Native.Nat.{_≤_, _-_, _/_}
@@ -7,7 +6,7 @@ use lib.ListN.{length}
 use Rattle.record.specs.Bytes.{size}
 use Rattle.meaning.specs.Reading.{bagFrom, bagsOf}
 use Rattle.meaning.specs.Meaning.{matchOf}
-use Rattle.request.proofs.Laws.{key-miss, key-hit, matchThen, match-all, match-miss, match-true, match-false, match-empty, match-none}
+use Rattle.request.proofs.Laws.{matchThen, match-all, match-miss, match-true, match-false, match-empty, match-none}
 use Rattle.request.proofs.matches.Statement.{statement}
 use Rattle.request.proofs.matches.Tie as tie
 
@@ -22,13 +21,13 @@ loop-holds : tie.Need-loop-holds Inv-loop μ-loop
 loop-holds c = (refl, omega arith, match-all _ _)
 
 loop-again : tie.Need-loop-again Inv-loop μ-loop
-loop-again c = (search needs, omega arith, match-miss _ _ _ _ (c .before .before .loop-test .taken) refl _ (key-miss _ _ (c .before .has-key .ensures) (not-true _ (c .if1 .taken))) (c .before .before .before .loop .inv .2))
+loop-again c = (search needs, omega arith, match-miss _ _ _ _ (c .before .before .before .loop-test .taken) (c .before .before .big4 .ensures) _ (c .if1 .taken) (c .before .before .before .before .loop .inv .2))
 
 returns : tie.Need-returns Inv-loop μ-loop
-returns c = match-true _ _ _ _ (c .before .before .before .before .before .loop-test .taken) refl _ (key-hit _ _ (c .before .before .before .before .has-key .ensures) (not-false _ (c .before .before .before .if1 .left))) (c .before .before .big8 .ensures) (c .before .holds .ensures) (c .if2 .taken) (c .before .before .before .before .before .before .loop .inv .2)
+returns c = match-true _ _ _ _ (c .before .before .before .before .before .before .loop-test .taken) (c .before .before .before .before .before .big4 .ensures) _ (c .before .before .before .if1 .left) (c .before .before .big8 .ensures) (c .before .holds .ensures) (c .if2 .taken) (c .before .before .before .before .before .before .before .loop .inv .2)
 
 loop-again-2 : tie.Need-loop-again-2 Inv-loop μ-loop
-loop-again-2 c = (search needs, omega arith, match-false _ _ _ _ (c .before .before .before .before .before .loop-test .taken) refl _ (key-hit _ _ (c .before .before .before .before .has-key .ensures) (not-false _ (c .before .before .before .if1 .left))) (c .before .before .big8 .ensures) (c .before .holds .ensures) (c .if2 .left) (c .before .before .before .before .before .before .loop .inv .2))
+loop-again-2 c = (search needs, omega arith, match-false _ _ _ _ (c .before .before .before .before .before .before .loop-test .taken) (c .before .before .before .before .before .big4 .ensures) _ (c .before .before .before .if1 .left) (c .before .before .big8 .ensures) (c .before .holds .ensures) (c .if2 .left) (c .before .before .before .before .before .before .before .loop .inv .2))
 
 returns-2 : tie.Need-returns-2 Inv-loop μ-loop
 returns-2 c = match-empty _ _ _ _ (c .before .before .loop-test .left) (c .before .if3 .taken) (c .absent .ensures) (c .before .before .before .loop .inv .2)
@@ -44,8 +43,8 @@ matches-spec =
     μ-loop
     loop-holds
     (λ c. search needs)
-    (λ c κs. search needs)
     (λ c. search needs)
+    (λ c κs. search needs)
     (λ c. search needs)
     loop-again
     (λ c. search needs)

@@ -1,39 +1,36 @@
 use borrow.Author.Needs.{needs}
 use native.Mathlib.Omega.{arith}
 use mathlib.Core.Path.{_≡_}
-use Prim.Native.Nat.{_+_, _-_, _<_}
+use Prim.Native.Nat.{_+_, _-_, _≤_}
 use Rattle.record.specs.Forest.{forest}
 use Rattle.meaning.specs.Logic.{andAll, andOf}
 use Rattle.meaning.specs.Meaning.{matchOf, conjunctionOf}
 use Rattle.meaning.specs.Reading.{conjunctionAt, bagsOf}
 use Rattle.rules.proofs.Loops.{ands, then, turn, stop, end}
-use Rattle.rules.proofs.Laws.{truths, truths-none, matchRead, matches-more, conjunction-many, conjunction-one}
+use Rattle.rules.proofs.Laws.{truths, truths-none, matchRead, matches-more, conjunction-all}
 use Rattle.rules.proofs.conjunction.Statement.{statement}
 use Rattle.rules.proofs.conjunction.Tie as tie
 
 abbrev Inv-loop : tie.InvT-loop
 Inv-loop book request i s at₀ left₀ acc₀ at left acc =
-    (at + left ≡ i + s) × (left < s)
+    (at + left ≡ i + s)
     × (then andAll andOf acc (truths (matchOf (bagsOf request)) (matchRead book) (forest book at left)) ≡ conjunctionOf (bagsOf request) (conjunctionAt book i (forest book (i + 1) (s - 1))))
 
 abbrev μ-loop : tie.MeasureT-loop
 μ-loop book request i s at₀ left₀ acc₀ at left acc = left
 
-returns : tie.Need-returns Inv-loop μ-loop
-returns c = conjunction-one _ _ _ _ (c .before .before .if1 .taken) (c .before .match-at .ensures) (c .matches .ensures)
-
 loop-holds : tie.Need-loop-holds Inv-loop μ-loop
 unfolding then
-loop-holds c = (omega arith, omega arith, conjunction-many _ _ _ _ (c .before .before .before .pre .0) (c .if1 .left))
+loop-holds c = (omega (arith, c .children-at .ensures .1), conjunction-all _ _ _ _ (c .before .before .before .pre .0) (c .children-at .ensures .0))
 
-returns-2 : tie.Need-returns-2 Inv-loop μ-loop
-returns-2 c = stop ands _ (matches-more _ _ _ (c .before .before .before .before .before .loop-test .taken) (c .before .before .before .before .span-in .ensures .0) _ (c .before .before .before .match-at2 .ensures) (c .before .before .matches2 .ensures)) (c .enum-told .given .1) (c .before .before .before .before .before .before .loop .inv .2)
+returns : tie.Need-returns Inv-loop μ-loop
+returns c = stop ands _ (matches-more _ _ _ (c .before .before .before .before .before .loop-test .taken) (c .before .before .before .before .span-in .ensures .0) _ (c .before .before .before .match-at .ensures) (c .before .before .matches .ensures)) (c .enum-told .given .1) (c .before .before .before .before .before .before .loop .inv .1)
 
 loop-again : tie.Need-loop-again Inv-loop μ-loop
-loop-again c = (omega arith, omega arith, turn ands _ (matches-more _ _ _ (c .before .before .before .before .before .loop-test .taken) (c .before .before .before .before .span-in .ensures .0) _ (c .before .before .before .match-at2 .ensures) (c .before .before .matches2 .ensures)) (c .and3 .ensures) (c .before .before .before .before .before .before .loop .inv .2))
+loop-again c = (omega arith, turn ands _ (matches-more _ _ _ (c .before .before .before .before .before .loop-test .taken) (c .before .before .before .before .span-in .ensures .0) _ (c .before .before .before .match-at .ensures) (c .before .before .matches .ensures)) (c .and3 .ensures) (c .before .before .before .before .before .before .loop .inv .1))
 
-returns-3 : tie.Need-returns-3 Inv-loop μ-loop
-returns-3 c = end ands _ (truths-none _ _ _ (c .loop-test .left) _ _) (c .before .loop .inv .2)
+returns-2 : tie.Need-returns-2 Inv-loop μ-loop
+returns-2 c = end ands _ (truths-none _ _ _ (c .loop-test .left) _ _) (c .before .loop .inv .1)
 
 pub conjunction-spec : {M : Type 1} → statement M
 conjunction-spec =
@@ -42,8 +39,6 @@ conjunction-spec =
     Inv-loop
     μ-loop
     (λ c κs. search needs)
-    (λ c κs. search needs)
-    returns
     (λ c. search needs)
     (λ c. search needs)
     loop-holds
@@ -51,10 +46,10 @@ conjunction-spec =
     (λ c κs. search needs)
     (λ c κs. search needs)
     (λ c. search needs)
-    returns-2
+    returns
     (λ c κs. search needs)
     (λ c. search needs)
     (λ c. search needs)
     (λ c. search needs)
     loop-again
-    returns-3)
+    returns-2)
