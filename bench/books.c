@@ -1,5 +1,6 @@
 #include "books.h"
 
+#include <stdbool.h>
 #include <stdio.h>
 #include <stdlib.h>
 #include <string.h>
@@ -203,6 +204,97 @@ size_t deep_book(uint8_t *book, unsigned algorithm, unsigned sets, enum filling 
         put(&head, 1, algorithm, (size_t)(pen.at - head.at) / RECORD, 0, 0, 0, 0);
     }
     return (size_t)(pen.at - book);
+}
+
+/* ---- Wide books -------------------------------------------------------------------------------------------- */
+
+/* So many records of one kind without children, tests of the attribute that the deep books ask for among them. */
+static void put_alike(struct pen *pen, size_t count, unsigned kind, unsigned choice)
+{
+    bool tests = kind == 6 || kind == 7;
+    for (; count > 0; count--)
+        put(pen, kind, choice, 1, tests ? 4 : 0, tests ? 1 : 0, tests ? 7 : 0, tests ? 50 : 0);
+}
+
+/* A section of conjunctions of one match each, and a rule where that leaves a record over. */
+static void put_conjunctions(struct pen *pen, size_t left)
+{
+    size_t conjunctions = (left - 1) / 2;
+    put(pen, 4, 0, 1 + 2 * conjunctions, 4, 0, 0, 0);
+    for (size_t i = 0; i < conjunctions; i++) {
+        put(pen, 5, 0, 2, 0, 0, 0, 0);
+        put_alike(pen, 1, 6, 2);
+    }
+    put_alike(pen, left - 1 - 2 * conjunctions, 3, 2);
+}
+
+/* The records that are left: a policy round the wide record, but for policies, which stand in the innermost set. */
+static void put_wide(struct pen *pen, size_t left, enum width width)
+{
+    if (width != POLICIES)
+        put(pen, 2, 1, left--, 0, 0, 0, 0);
+    switch (width) {
+    case RULES:
+        put_alike(pen, left, 3, 1);
+        break;
+    case POLICIES:
+        put_alike(pen, left, 2, 1);
+        break;
+    case OBLIGATIONS:                                           /* on Deny, which the rule before them decides */
+        put_alike(pen, 1, 3, 2);
+        put_alike(pen, left - 1, 8, 2);
+        break;
+    case CONJUNCTIONS:
+        put_conjunctions(pen, left);
+        break;
+    case MATCHES:
+        put(pen, 4, 0, left, 4, 0, 0, 0);
+        put(pen, 5, 0, left - 1, 0, 0, 0, 0);
+        put_alike(pen, left - 2, 6, 2);
+        break;
+    case PARTS:
+        put(pen, 3, 1, left, 0, 0, 0, 0);
+        put(pen, 7, 1, left - 1, 0, 0, 0, 0);
+        put_alike(pen, left - 2, 7, 12);
+        break;
+    default:
+        break;
+    }
+}
+
+size_t wide_book(uint8_t *book, unsigned algorithm, unsigned sets, enum width width)
+{
+    struct pen pen = { book };
+    size_t left = MOST_BOOK / RECORD;
+    for (; sets > 0; sets--)
+        put(&pen, 1, algorithm, left--, 0, 0, 0, 0);
+    put_wide(&pen, left, width);
+    return (size_t)(pen.at - book);
+}
+
+/* ---- Books for stacks -------------------------------------------------------------------------------------- */
+
+size_t stack_book(uint8_t *book, size_t number)
+{
+    static const struct { unsigned first, last; } deep[] = {    /* how many sets */
+        [SETS] = { 16, 16 }, [CONDITIONS] = { 0, 13 }, [POLICY_TARGET] = { 12, 12 }, [RULE_TARGET] = { 11, 11 },
+    }, wide[] = {
+        [RULES] = { 0, 14 }, [POLICIES] = { 1, 15 }, [OBLIGATIONS] = { 0, 14 },
+        [CONJUNCTIONS] = { 0, 12 }, [MATCHES] = { 0, 12 }, [PARTS] = { 0, 12 },
+    };
+    if (number-- == 0)
+        return bytes_of_file("examples/rig/BOOK.HEX", book, MOST_BOOK);
+    for (unsigned algorithm = 1; algorithm <= 4; algorithm++) {
+        for (enum filling filling = SETS; filling < FILLINGS; filling++)
+            for (unsigned sets = deep[filling].first; sets <= deep[filling].last; sets++)
+                if (number-- == 0)
+                    return deep_book(book, algorithm, sets, filling);
+        for (enum width width = RULES; width < WIDTHS; width++)
+            for (unsigned sets = wide[width].first; sets <= wide[width].last; sets++)
+                if (number-- == 0)
+                    return wide_book(book, algorithm, sets, width);
+    }
+    return 0;
 }
 
 /* ---- Books by chance --------------------------------------------------------------------------------------- */

@@ -23,6 +23,16 @@ size_t growth_request(uint8_t *request, size_t entries);
 enum filling { SETS, CONDITIONS, POLICY_TARGET, RULE_TARGET, FILLINGS };
 size_t deep_book(uint8_t *book, unsigned algorithm, unsigned sets, enum filling filling);
 
+/* A book of 1,000 records: sets of one algorithm, one in the other, and in the innermost one record with as many
+ * children as there is room for, which makes deep what calls itself for the next sibling. */
+enum width { RULES, POLICIES, OBLIGATIONS, CONJUNCTIONS, MATCHES, PARTS, WIDTHS };
+size_t wide_book(uint8_t *book, unsigned algorithm, unsigned sets, enum width width);
+
+/* The books on which stacks are measured, by their numbers from 0 on: the rig's, deep ones, and wide ones with every
+ * number of sets that depth 16 allows, since those add to the stack. Returns the length in bytes, or 0 behind the
+ * last. */
+size_t stack_book(uint8_t *book, size_t number);
+
 /* Chance that repeats with its seed, which is not 0: a number below below. */
 struct dice {
     uint64_t seed;

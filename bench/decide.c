@@ -85,24 +85,18 @@ static void growth(struct input in, uint8_t *book, uint8_t *request)
         }
 }
 
-/* The deepest stack of a side over every book of depth 16 that deep_book makes; in is left with the book that
- * takes it. */
+/* The deepest stack of a side over every stack_book; in is left with the length of the book that takes it. */
 static size_t deepest(struct input *in, uint8_t *book, side *of)
 {
-    static const unsigned first[] = { [SETS] = 16, [CONDITIONS] = 0, [POLICY_TARGET] = 12, [RULE_TARGET] = 11 };
-    static const unsigned last[] = { [SETS] = 16, [CONDITIONS] = 13, [POLICY_TARGET] = 12, [RULE_TARGET] = 11 };
     size_t most = 0, most_len = 0;
-    for (unsigned algorithm = 1; algorithm <= 4; algorithm++)
-        for (enum filling filling = SETS; filling < FILLINGS; filling++)
-            for (unsigned sets = first[filling]; sets <= last[filling]; sets++) {
-                in->book_len = deep_book(book, algorithm, sets, filling);
-                agree(in, of);
-                size_t stack = stack_of(of, in);
-                if (stack > most) {
-                    most = stack;
-                    most_len = in->book_len;
-                }
-            }
+    for (size_t i = 0; (in->book_len = stack_book(book, i)) > 0; i++) {
+        agree(in, of);
+        size_t stack = stack_of(of, in);
+        if (stack > most) {
+            most = stack;
+            most_len = in->book_len;
+        }
+    }
     in->book_len = most_len;
     return most;
 }

@@ -81,6 +81,22 @@ static struct input of_book(const char *name, size_t book_len)
     return (struct input){ .name = name, .book = book, .book_len = book_len, .request = request };
 }
 
+/* Ends the program unless Bachumoi translates the book of in, and runs its request, as plain C does: a stack or time of
+ * a refusal would be too good. Returns the steps of the run. */
+static uint64_t agree(const struct input *in)
+{
+    static struct programme theirs;
+    uint64_t taken, number = run(&plain_machine, &programme, in->request, in->request_len, NULL, out, &taken);
+    if (proved_machine) {
+        translate(proved_machine, in->book, in->book_len, &theirs);
+        if (memcmp(&theirs, &programme, sizeof programme) != 0)
+            wrong("another programme than plain C's", "translate");
+        if ((proved_whole_run(in) & 0xFFFFFFFF) != number)
+            wrong("another answer than plain C's", "run");
+    }
+    return taken;
+}
+
 static void translating(const char *name, size_t book_len)
 {
     struct input in = of_book(name, book_len);
@@ -91,10 +107,7 @@ static void running(const char *name, size_t book_len, size_t request_len)
 {
     struct input in = of_book(name, book_len);
     in.request_len = request_len;
-    uint64_t taken, number = run(&plain_machine, &programme, request, request_len, NULL, out, &taken);
-    if (proved_machine && (proved_whole_run(&in) & 0xFFFFFFFF) != number)
-        wrong("another answer than plain C's", "run");
-    all_but_one = taken - 1;
+    all_but_one = agree(&in) - 1;
     MEASURE("tick of 0", &in, no_step, 0, 1);
     MEASURE("step", &in, steps, 1, all_but_one);
     MEASURE("run", &in, whole_run, 0, 1);
@@ -132,23 +145,20 @@ static void sizes(void)
     }
 }
 
-/* The deepest stack of a side over the rig's book and books of depth 16; in is left with the book that takes it. */
+/* The deepest stack of a side over every stack_book; in is left with the length of the book that takes it. */
 static double deepest(side *of, struct input *in)
 {
-    static const unsigned sets[] = { [SETS] = 16, [CONDITIONS] = 0, [POLICY_TARGET] = 12, [RULE_TARGET] = 11 };
-    struct input deep = *in;
-    size_t most = 0;
-    for (unsigned algorithm = 0; algorithm <= 4; algorithm++)
-        for (enum filling filling = SETS; filling < FILLINGS; filling++) {
-            deep = of_book(in->name, algorithm == 0 ? bytes_of_file("examples/rig/BOOK.HEX", book, sizeof book)
-                                                    : deep_book(book, algorithm, sets[filling], filling));
-            deep.request_len = bytes_of_file("examples/a/40.hex", request, sizeof request);
-            size_t stack = stack_of(of, &deep);
-            if (stack > most) {
-                most = stack;
-                *in = deep;
-            }
+    size_t request_len = bytes_of_file("examples/a/40.hex", request, sizeof request), book_len, most = 0;
+    for (size_t i = 0; (book_len = stack_book(book, i)) > 0; i++) {
+        struct input lent = of_book(in->name, book_len);
+        lent.request_len = request_len;
+        agree(&lent);
+        size_t stack = stack_of(of, &lent);
+        if (stack > most) {
+            most = stack;
+            *in = lent;
         }
+    }
     return (double)most;
 }
 

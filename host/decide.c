@@ -1,7 +1,7 @@
 /* A C host: decides book A of document 01 through bachumoi_decide, prints a table, and checks every number and byte.
  *
- * All that is lent stands in heap buffers of exactly the lent length, so that valgrind sees any byte read or written
- * beside them.
+ * All that is lent stands in heap buffers of exactly the lent length, so that fences and valgrind see any byte read or
+ * written beside them.
  * Exit status 0 if all is as document 01 says, else 1. host/run builds and runs it.
  */
 #include <bachumoi.h>

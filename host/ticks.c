@@ -2,8 +2,8 @@
  * calls of librig.a, in sound calls and refused ones. Each run must answer as bachumoi_decide does, which is linked
  * beside them.
  *
- * All that is lent stands in heap buffers of exactly the lent length, so that valgrind sees any byte read or written
- * beside them. Exit status 0 if all is as include/bachumoi.h says, else 1. host/run builds and runs it.
+ * All that is lent stands in heap buffers of exactly the lent length, so that fences and valgrind see any byte read or
+ * written beside them. Exit status 0 if all is as include/bachumoi.h says, else 1. host/run builds and runs it.
  */
 #include <bachumoi.h>
 

@@ -117,6 +117,30 @@ settled a Pending = false
 settled a Two = true
 settled a (One d) = false
 
+-- above an answer of the rule whose effect does not override, and below the top
+abbrev pub raised : Rank → Bool
+raised R0 = false
+raised R1 = false
+raised R2 = true
+raised R3 = true
+raised R4 = false
+
+-- no rule of this effect can change the outcome any more: under deny-overrides no Permit rule can, once one has given Permit or a Deny rule is
+-- Indeterminate; under permit-overrides no Deny rule, the other way round
+abbrev pub idle : Algorithm → Acc → Effect → Bool
+idle RulesDeny (Ranked r) Permits = raised r
+idle RulesDeny (Ranked r) Denies = false
+idle RulesPermit (Ranked r) Permits = false
+idle RulesPermit (Ranked r) Denies = raised r
+idle First (Ranked r) e = false
+idle PoliciesDeny (Ranked r) e = false
+idle PoliciesPermit (Ranked r) e = false
+idle OnlyOne (Ranked r) e = false
+idle a Nobody e = false
+idle a Pending e = false
+idle a Two e = false
+idle a (One d) e = false
+
 -- an Indeterminate child spoils only-one
 abbrev pub unlessFailed : Decision → Acc → Acc
 unlessFailed Permit acc = acc

@@ -9,7 +9,7 @@ use lib.ListN.{length, set, length-set}
 use borrow.Author.Tests.{ne-eqb}
 use Rattle.record.specs.Choose.{if, both, either}
 use Rattle.record.specs.Bytes.{size, byteOf, bigOf}
-use Rattle.record.specs.Forest.{spanIn, forest}
+use Rattle.record.specs.Forest.{spanIn, forest, height}
 use Rattle.record.proofs.Choose.{both-left}
 use Rattle.meaning.specs.Numbers.{numberOf}
 use Rattle.meaning.specs.Logic.{isUnknown, some}
@@ -25,7 +25,7 @@ use Rattle.meaning.specs.declared.Algorithm.the-variants.{RulesDeny, RulesPermi
 use Rattle.algorithm.specs.Fold.{isOnly, start, result, settled, absorb}
 use Rattle.algorithm.specs.declared.Acc.{Acc}
 use Rattle.decider.specs.Places.{Holds, between}
-use Rattle.decider.specs.Inside.{childAt, childrenIn, isParty, isDue, keeps, upOf, upAt, directOf, roomOf, deepOf, nestOf, Put, Ruled, Applies, Single, Picked, noted, isMany}
+use Rattle.decider.specs.Inside.{childAt, childrenIn, isParty, isDue, keeps, upOf, upAt, directOf, roomOf, deepOf, Put, Ruled, Applies, Single, Picked, noted, isMany}
 use Rattle.decider.specs.declared.Pick.{Pick}
 use Rattle.decider.specs.declared.Pick.the-variants.{Nobody, One, Many}
 use Rattle.decider.proofs.Stack.{holds-none, holds-both, holds-store, settled as stays}
@@ -272,7 +272,7 @@ pub record Seeking (b : List ℕ) (g : Bags) (from count i left : ℕ) (p : Pick
   pub place : i + left ≡ from + count
   pub fits : left ≤ count
   pub room : deepOf b (forest b i left) ≤ deepOf b (forest b from count)
-  pub nest : nestOf (forest b i left) ≤ nestOf (forest b from count)
+  pub nest : height (forest b i left) ≤ height (forest b from count)
   pub seen : Seen b g from count (childrenIn b g i left) p
 
 pub seek-start : (b : List ℕ) (g : Bags) (from count : ℕ) → Seeking b g from count from count Nobody

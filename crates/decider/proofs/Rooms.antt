@@ -5,12 +5,12 @@ use Prim.Native.Nat.{ℕ, zero, suc, _+_, _-_, _≤_, _<_, max}
 use native.Mathlib.Omega.{arith}
 use native.Mathlib.Numerals.{add-one}
 use Rattle.record.specs.Choose.{if}
-use Rattle.record.specs.Forest.{Forest, none, node, spanIn, forest}
+use Rattle.record.specs.Forest.{Forest, none, node, spanIn, forest, height}
 use Rattle.record.proofs.Forests.{forest-none, forest-more, span-pos, span-le}
 use Rattle.fields.specs.First.{countBelow}
 use Rattle.fields.specs.Fields.{obligationsOf}
 use Rattle.meaning.specs.Reading.{isKind}
-use Rattle.decider.specs.Inside.{directOf, roomOf, deepOf, nestOf}
+use Rattle.decider.specs.Inside.{directOf, roomOf, deepOf}
 
 -- how a forest begins
 pub ends : (b : List ℕ) (i left : ℕ) → left ≤ 0 → forest b i left ≡ none
@@ -32,14 +32,14 @@ module _ (b : List ℕ) (i left : ℕ) {s : ℕ} (h : 0 < left) (e : s ≡ spanI
   unfolding roomOf
   room-is = rw begins
 
-  nest-is : nestOf (forest b i left) ≡ max (suc (nestOf (forest b (i + 1) (s - 1)))) (nestOf (forest b (i + s) (left - s)))
-  unfolding nestOf
+  nest-is : height (forest b i left) ≡ max (suc (height (forest b (i + 1) (s - 1)))) (height (forest b (i + s) (left - s)))
+  unfolding height
   nest-is = rw begins
 
-  pub nest-kids : nestOf (forest b (i + 1) (s - 1)) < nestOf (forest b i left)
+  pub nest-kids : height (forest b (i + 1) (s - 1)) < height (forest b i left)
   nest-kids = omega (arith, nest-is)
 
-  pub nest-rest : nestOf (forest b (i + s) (left - s)) ≤ nestOf (forest b i left)
+  pub nest-rest : height (forest b (i + s) (left - s)) ≤ height (forest b i left)
   nest-rest = omega (arith, nest-is)
 
 -- what stands in a forest, and what stands below it
@@ -50,21 +50,6 @@ room-split b (node i kids rest) = omega (arith, room-split b rest)
 
 pub rooms : (b : List ℕ) (i left : ℕ) → roomOf b (forest b i left) ≡ deepOf b (forest b i left) + directOf b (forest b i left)
 rooms b i left = room-split b (forest b i left)
-
--- no more levels than records
-nest-fuel : (f : ℕ) (b : List ℕ) (i left : ℕ) → left ≤ f → nestOf (forest b i left) ≤ left
-unfolding nestOf
-nest-fuel zero b i zero h = rw (ends b i 0 (omega arith)) (omega arith)
-nest-fuel (suc f) b i zero h = rw (ends b i 0 (omega arith)) (omega arith)
-nest-fuel zero b i (suc l) h = absurd (omega arith)
-nest-fuel (suc f) b i (suc l) h =
-    let s : ℕ = spanIn b i (suc l) in
-    let p : 0 < s = span-pos b i (suc l) (omega arith) in
-    let q : s ≤ suc l = span-le b i (suc l) in
-    omega (arith, nest-is b i (suc l) (omega arith) refl, nest-fuel f b (i + 1) (s - 1) (omega arith), nest-fuel f b (i + s) (suc l - s) (omega arith))
-
-pub nest-le : (b : List ℕ) (i left : ℕ) → nestOf (forest b i left) ≤ left
-nest-le b i left = nest-fuel left b i left (omega arith)
 
 -- every record stands in the forest once
 count-fuel : (f : ℕ) (b : List ℕ) (i left : ℕ) → left ≤ f → obligationsOf b i + roomOf b (forest b i left) ≡ obligationsOf b (i + left)

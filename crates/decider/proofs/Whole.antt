@@ -9,7 +9,7 @@ use lib.ListN.{length, take, replicate, length-append}
 use lib.Seq.{take-at}
 use borrow.Author.Tests.{lt-ltb, le-ltb, ltb-true, ltb-false}
 use Rattle.record.specs.Choose.{if}
-use Rattle.record.specs.Forest.{forest}
+use Rattle.record.specs.Forest.{forest, height}
 use Rattle.record.specs.Refusals.{noRoom}
 use Rattle.record.specs.declared.Refusal.{Refusal}
 use Rattle.fields.specs.First.{countBelow}
@@ -26,6 +26,7 @@ use Rattle.judge.specs.declared.JudgedRequest.{JudgedRequest}
 use Rattle.judge.specs.declared.JudgedRequest.the-variants as request
 use Rattle.judge.specs.Exactly.{Breaks, empty, cut, many, field, place}
 use Rattle.judge.specs.ExactlyRequest.{BreaksRequest, cut as cut-request, many as many-entries, field as entry}
+use Rattle.judge.proofs.Depth.{accepted-deep}
 use Rattle.judge.proofs.Exactly.{accepted-keeps, refused-breaks}
 use Rattle.judge.proofs.ExactlyRequest.{refused-request-breaks}
 use Rattle.decider.specs.Outcome.{dutiesOf, inOrder, outcomeOf, filled, outOf, CountsByBags}
@@ -75,11 +76,12 @@ module _ (b q l : List ℕ) where
     unfolding outcomeOf outOf
     decided f g w = (rw (← ej, e, ← eh, f, le-ltb _ _ g, w .says, w .puts), rw (← ej, e, ← eh, f, le-ltb _ _ g) (w .leaves))
 
--- an accepted book has so many records, and so many of them are obligations
-pub accepted-has : (b : List ℕ) {n k : ℕ} {j : Judged} → j ≡ judgeOf b → j ≡ book.Accepted n k → (0 < n) × (length b ≡ n * 16) × (k ≡ obligationsOf b n)
+-- an accepted book has so many records, so many of them are obligations, and at most 15 levels lie below its first record
+pub accepted-has : (b : List ℕ) {n k : ℕ} {j : Judged} → j ≡ judgeOf b → j ≡ book.Accepted n k
+    → (0 < n) × (length b ≡ n * 16) × (k ≡ obligationsOf b n) × (height (forest b 1 (n - 1)) ≤ 15)
 accepted-has b {n} {k} ej e =
     let w = accepted-keeps b n k (sym ej ∙ e) in
-    (w .0 .sized .some, w .0 .sized .bytes, w .1)
+    (w .0 .sized .some, w .0 .sized .bytes, w .1, accepted-deep b n k (sym ej ∙ e))
 
 -- so no book asks for more than 1,000 places
 count-le : (b : List ℕ) (n : ℕ) → obligationsOf b n ≤ n

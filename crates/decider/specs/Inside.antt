@@ -5,7 +5,7 @@ use mathlib.Core.Bool.{Bool, true, false}
 use mathlib.Core.List.{List, [], _∷_, _++_}
 use lib.ListN.{length, replicate}
 use Rattle.record.specs.Choose.{if, both, either}
-use Rattle.record.specs.Forest.{Forest, none, node, forest}
+use Rattle.record.specs.Forest.{Forest, none, node, forest, height}
 use Rattle.meaning.specs.Logic.{some}
 use Rattle.meaning.specs.Policy.{Tree, policy, set}
 use Rattle.meaning.specs.Meaning.{Bags, Child, is, decisionOf, unsure, applying, combine, handed, binding, overPolicies, childOf, childrenOf, decides}
@@ -72,11 +72,6 @@ unfoldable pub deepOf : List ℕ → Forest → ℕ
 deepOf b none = 0
 deepOf b (node i kids rest) = roomOf b kids + deepOf b rest
 
--- how deep a forest nests
-unfoldable pub nestOf : Forest → ℕ
-nestOf none = 0
-nestOf (node i kids rest) = max (suc (nestOf kids)) (nestOf rest)
-
 -- xs stand on top of n places, in no more than `room` of them
 pub record Put (l : List ℕ) (n : ℕ) (xs : List ℕ) (room : ℕ) (e : List ℕ) (m : ℕ) : Type 0 where
   pub holds : Holds l n xs e m
@@ -94,7 +89,7 @@ pub record Applies (b : List ℕ) (g : Bags) (from count j s : ℕ) : Type 0 whe
   pub ends : j + s ≤ from + count
   pub fits : s ≤ count
   pub room : roomOf b (forest b (j + 1) (s - 1)) ≤ deepOf b (forest b from count)
-  pub nest : nestOf (forest b (j + 1) (s - 1)) < nestOf (forest b from count)
+  pub nest : height (forest b (j + 1) (s - 1)) < height (forest b from count)
 
 -- and it alone
 pub record Single (b : List ℕ) (g : Bags) (from count j s : ℕ) : Type 0 where

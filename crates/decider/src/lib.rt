@@ -10,13 +10,13 @@ ghost use mathlib.Core.Path.{_≡_};
 ghost use mathlib.Core.Bool.{false};
 ghost use Prim.Native.Nat.{_+_, _*_, _-_, _<_, _≤_};
 ghost use lib.ListN.{length};
-ghost use Rattle.record.specs.Forest.{forest};
+ghost use Rattle.record.specs.Forest.{forest, height};
 ghost use Rattle.meaning.specs.Meaning.{is, said, owed, combine, ownOf, binding, overPolicies};
 ghost use Rattle.meaning.specs.Reading.{policiesBy, obligationsIn, bagsOf};
 ghost use Rattle.algorithm.specs.Fold.{isOnly};
 ghost use Rattle.fields.specs.Fields.{obligationsOf};
 ghost use Rattle.decider.specs.Outcome.{outcomeOf, outOf};
-ghost use Rattle.decider.specs.Inside.{Answered, childAt, childrenIn, isParty, isDue, keeps, upOf, upAt, directOf, roomOf, deepOf, nestOf, Put, Ruled, Picked, noted, isMany};
+ghost use Rattle.decider.specs.Inside.{Answered, childAt, childrenIn, isParty, isDue, keeps, upOf, upAt, directOf, roomOf, deepOf, Put, Ruled, Picked, noted, isMany};
 
 mod places;
 
@@ -214,7 +214,7 @@ fn child(
     n: usize,
 ) -> Ruling
     requires { ⌜ (0 < s) × ((i + s) * 16 ≤ length (now book)) × (n + roomOf (now book) (forest (now book) (i + 1) (s - 1)) ≤ length (now out))
-        × (nestOf (forest (now book) (i + 1) (s - 1)) ≤ depth) ⌝ }
+        × (height (forest (now book) (i + 1) (s - 1)) ≤ depth) ⌝ }
     ensures { λ r. ⌜ Ruled (now (out .entry)) n (said (childAt (now (book .entry)) (bagsOf (now (request .entry))) i s))
         (owed (childAt (now (book .entry)) (bagsOf (now (request .entry))) i s .target) (childAt (now (book .entry)) (bagsOf (now (request .entry))) i s .duties))
         (roomOf (now (book .entry)) (forest (now (book .entry)) (i + 1) (s - 1))) (now (out .exit)) (r .decision) (r .count) ⌝ }
@@ -244,7 +244,7 @@ fn body(
     n: usize,
 ) -> Ruling
     requires { ⌜ (0 < s) × ((i + s) * 16 ≤ length (now book)) × (n + roomOf (now book) (forest (now book) (i + 1) (s - 1)) ≤ length (now out))
-        × (nestOf (forest (now book) (i + 1) (s - 1)) ≤ depth) ⌝ }
+        × (height (forest (now book) (i + 1) (s - 1)) ≤ depth) ⌝ }
     ensures { λ r. ⌜ Ruled (now (out .entry)) n (childAt (now (book .entry)) (bagsOf (now (request .entry))) i s .body)
         (childAt (now (book .entry)) (bagsOf (now (request .entry))) i s .duties)
         (roomOf (now (book .entry)) (forest (now (book .entry)) (i + 1) (s - 1))) (now (out .exit)) (r .decision) (r .count) ⌝ }
@@ -269,7 +269,7 @@ fn gather(
     n: usize,
 ) -> Ruling
     requires { ⌜ (0 < s) × ((i + s) * 16 ≤ length (now book)) × (n + deepOf (now book) (forest (now book) (i + 1) (s - 1)) ≤ length (now out))
-        × (nestOf (forest (now book) (i + 1) (s - 1)) ≤ depth) ⌝ }
+        × (height (forest (now book) (i + 1) (s - 1)) ≤ depth) ⌝ }
     ensures { λ r. ⌜ Ruled (now (out .entry)) n (childAt (now (book .entry)) (bagsOf (now (request .entry))) i s .body)
         (upAt (now (book .entry)) (bagsOf (now (request .entry))) i s)
         (deepOf (now (book .entry)) (forest (now (book .entry)) (i + 1) (s - 1))) (now (out .exit)) (r .decision) (r .count) ⌝ }
@@ -313,7 +313,7 @@ fn walk(
     n: usize,
 ) -> Ruling
     requires { ⌜ ((from + count) * 16 ≤ length (now book)) × (n + deepOf (now book) (forest (now book) from count) ≤ length (now out))
-        × (nestOf (forest (now book) from count) ≤ depth) × (isOnly a ≡ false) ⌝ }
+        × (height (forest (now book) from count) ≤ depth) × (isOnly a ≡ false) ⌝ }
     ensures { λ r. ⌜ Ruled (now (out .entry)) n (combine a (childrenIn (now (book .entry)) (bagsOf (now (request .entry))) from count))
         (upOf a (childrenIn (now (book .entry)) (bagsOf (now (request .entry))) from count))
         (deepOf (now (book .entry)) (forest (now (book .entry)) from count)) (now (out .exit)) (r .decision) (r .count) ⌝ }
@@ -353,12 +353,16 @@ fn walk(
     }
 }
 
+// So many levels may lie below the first record of an accepted book.
+const MOST_BELOW: usize = 15;
+
 // What the book of so many records decides for a request, with its obligations first in out and zeros after them.
 fn answer(book: &[u8], request: &[u8], records: usize, out: &mut [u16]) -> Ruling
-    requires { ⌜ (0 < records) × (length (now book) ≡ records * 16) × (obligationsOf (now book) records ≤ length (now out)) ⌝ }
+    requires { ⌜ (0 < records) × (length (now book) ≡ records * 16) × (obligationsOf (now book) records ≤ length (now out))
+        × (height (forest (now book) 1 (records - 1)) ≤ 15) ⌝ }
     ensures { λ r. ⌜ Answered (now (book .entry)) (now (request .entry)) (now (out .entry)) (now (out .exit)) (r .decision) (r .count) ⌝ }
 {
-    let r = child(book, request, 0, records, records, out, 0);
+    let r = child(book, request, 0, records, MOST_BELOW, out, 0);
     let n = r.count;
     places::clear(out, n);
     r

@@ -42,7 +42,7 @@ use Rattle.translator.proofs.Holding.{InTree, book-has}
 use Rattle.translator.proofs.Fetch.{Key, Short, numbers-length, codes, lawful-at}
 use Rattle.translator.proofs.Size.{short, recs}
 use Rattle.translator.proofs.Counted.{book-records, book-nest, obligations-le}
-use Rattle.demand.proofs.Depth.{book-deep}
+use Rattle.judge.proofs.Depth.{book-deep}
 use Rattle.translator.proofs.Whole.{translated-right}
 use Rattle.demand.proofs.Course.{course, fresh-allowed}
 

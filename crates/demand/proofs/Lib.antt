@@ -1,3 +1,2 @@
-pub mod Depth
 pub mod Course
 pub mod Demand

@@ -9,5 +9,6 @@ pub mod Exactly
 pub mod ExactlyRequest
 pub mod Bounds
 pub mod Sound
+pub mod Depth
 pub mod Unique
 mod Examples

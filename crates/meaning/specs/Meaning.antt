@@ -20,11 +20,11 @@ use Rattle.meaning.specs.declared.Algorithm.the-variants.{RulesDeny, Rul
 abbrev pub Bags : Type 0
 Bags = ℕ → List ℕ
 
--- the type that a key names
+-- a key is one number for category, type and identifier; the type that it names
 unfoldable pub typeOf : ℕ → ℕ
 typeOf key = key / 65536 % 256
 
--- the function takes the literal first, then the request value
+-- **Match.** The function takes the literal first, then the request value: greater means literal > request value.
 unfoldable pub gives : Test → ℕ → Bool
 gives t v = holdsOf (t .function) (typeOf (t .key)) (t .literal) v
 
@@ -36,14 +36,14 @@ abbrev pub truthOf : Bool → Truth
 truthOf true = True
 truthOf false = False
 
--- **Match.** True if some value gives True; else False. An empty bag gives False, or Indeterminate with must-be-present.
+-- True if some value gives True; else False. An empty bag gives False, or Indeterminate with must-be-present.
 unfoldable pub matchIn : Test → List ℕ → Truth
 matchIn t vs = if (some (gives t) vs) True (if (both (empty vs) (t .must)) Unknown False)
 
 unfoldable pub matchOf : Bags → Test → Truth
 matchOf g t = matchIn t (g (t .key))
 
--- **Comparison.** One-and-only: Indeterminate unless the bag has exactly one value; else the function, literal first.
+-- **Comparison.** One-and-only: Indeterminate unless the bag has exactly one value, must-be-present or not; else the function, literal first.
 abbrev pub comparisonIn : Test → List ℕ → Truth
 comparisonIn t [] = Unknown
 comparisonIn t (v ∷ []) = truthOf (gives t v)
@@ -152,7 +152,7 @@ abbrev pub firstOf : List Child → Decision
 firstOf [] = NotApplicable
 firstOf (c ∷ cs) = if (says NotApplicable c) (firstOf cs) (said c)
 
--- Only-one-applicable judges children's targets only.
+-- Only-one-applicable: judges children's targets only. One Indeterminate or two Match: Indeterminate. None: NotApplicable. One: that child's answer.
 abbrev pub unsure : Child → Bool
 unsure c = isUnknown (c .target)
 
@@ -165,13 +165,16 @@ abbrev pub applying : List Child → List Child
 applying [] = []
 applying (c ∷ cs) = keep (c .target) c (applying cs)
 
--- None: NotApplicable. One: that child's answer. Two Match: Indeterminate.
 abbrev pub theOne : List Child → Decision
 theOne [] = NotApplicable
 theOne (c ∷ []) = c .body
 theOne (c ∷ d ∷ cs) = Indeterminate
 
--- the algorithms, children in order
+-- Match: the algorithm, children in order.
+-- Deny-overrides over rules: a Deny stops with Deny; else Indeterminate if a Deny rule was Indeterminate; else Permit if any; else Indeterminate if
+-- any; else NotApplicable. Permit-overrides over rules: the same with Permit and Deny exchanged.
+-- Deny-overrides over policies: Deny or Indeterminate stops with Deny; else Permit if any; else NotApplicable.
+-- Permit-overrides over policies: Permit stops; else Deny if any; else Indeterminate if any; else NotApplicable.
 unfoldable pub combine : Algorithm → List Child → Decision
 combine RulesDeny cs =
     if (some (says Deny) cs) Deny
@@ -183,7 +186,6 @@ combine RulesPermit cs =
     (if (some (fails Permits) cs) Indeterminate
     (if (some (says Deny) cs) Deny
     (if (some (says Indeterminate) cs) Indeterminate NotApplicable)))
-combine First cs = firstOf cs
 combine PoliciesDeny cs =
     if (some (λ c. either (says Deny c) (says Indeterminate c)) cs) Deny
     (if (some (says Permit) cs) Permit NotApplicable)
@@ -191,15 +193,16 @@ combine PoliciesPermit cs =
     if (some (says Permit) cs) Permit
     (if (some (says Deny) cs) Deny
     (if (some (says Indeterminate) cs) Indeterminate NotApplicable))
+combine First cs = firstOf cs
 combine OnlyOne cs = if (some unsure cs) Indeterminate (theOne (applying cs))
 
 -- after this child the algorithm stops
 abbrev pub stops : Algorithm → Child → Bool
 stops RulesDeny c = says Deny c
 stops RulesPermit c = says Permit c
-stops First c = if (says NotApplicable c) false true
 stops PoliciesDeny c = either (says Deny c) (says Indeterminate c)
 stops PoliciesPermit c = says Permit c
+stops First c = if (says NotApplicable c) false true
 stops OnlyOne c = false
 
 -- **Obligations.** Only for Permit or Deny. First those handed up by evaluated children with the same decision, in child order, then the

@@ -21,9 +21,10 @@ use Rattle.meaning.specs.declared.Effect.{Effect}
 use Rattle.meaning.specs.declared.Decision.{Decision}
 use Rattle.meaning.specs.declared.Decision.the-variants.{NotApplicable, Indeterminate}
 use Rattle.meaning.specs.declared.Algorithm.{Algorithm}
-use Rattle.algorithm.specs.Fold.{start, absorb, settled, result, isOnly}
+use Rattle.algorithm.specs.Fold.{start, absorb, settled, result, idle, isOnly}
 use Rattle.algorithm.specs.declared.Acc.{Acc}
 use Rattle.algorithm.proofs.Walk.{takes, walk, result-right}
+use Rattle.algorithm.proofs.Idle.{idle-keeps, idle-open}
 
 -- the truths of the records of a forest, each read with its children
 unfoldable pub truths : {A : Type 0} → (A → Truth) → (ℕ → Forest → A) → Forest → List Truth
@@ -205,17 +206,31 @@ takes-rule : (b : List ℕ) (g : Bags) (i : ℕ) (kids : Forest) (a : Algorithm)
 unfolding ruleChild ruleAt
 takes-rule b g i kids a acc o ec ef ed en = rw (o, en, ed, ef, ec)
 
+idle-rule : (b : List ℕ) (g : Bags) (i : ℕ) (kids : Forest) (a : Algorithm) (acc : Acc) {c : ℕ} {f : Effect} → c ≡ byteOf b i 1 → f ≡ effectOf c → idle a acc f ≡ true
+    → acc ≡ absorb a acc f (ruleOf g (ruleAt b i kids))
+unfolding ruleOf ruleAt
+idle-rule b g i kids a acc {c} {f} ec ef h =
+    rw (← ec, ← ef) (sym (idle-keeps a acc f (targetOf g (targetIn b kids)) (whenOf g (whenIn b kids)) h))
+
 module _ (b : List ℕ) (g : Bags) (i left : ℕ) (a : Algorithm) (acc : Acc) {s k : ℕ} {w : Decision}
-    (h : 0 < left) (e : s ≡ spanIn b i left) (ek : k ≡ byteOf b i 0) (p : ruled b g a acc (forest b i left) ≡ w) where
+    (some : 0 < left) (e : s ≡ spanIn b i left) (ek : k ≡ byteOf b i 0) (p : ruled b g a acc (forest b i left) ≡ w) where
   pub rules-skip : (k ≡ 3 → ⊥) → ruled b g a acc (forest b (i + s) (left - s)) ≡ w
   unfolding ruled rulesIn
-  rules-skip q = rw (begins b i left h e, ← ek, ne-eqb k 3 q) at p
+  rules-skip q = rw (begins b i left some e, ← ek, ne-eqb k 3 q) at p
+
+  -- a rule that is idle
+  pub rules-idle : {c : ℕ} {f : Effect} {t : Bool} → k ≡ 3 → isOnly a ≡ false → c ≡ byteOf b i 1 → f ≡ effectOf c → t ≡ idle a acc f → t ≡ true
+      → ruled b g a acc (forest b (i + s) (left - s)) ≡ w
+  unfolding ruled rulesIn ruleChildren walk
+  rules-idle {f = f} q o ec ef et z =
+      let h : idle a acc f ≡ true = sym et ∙ z in
+      rw (begins b i left some e, ← ek, q, takes-rule b g i (forest b (i + 1) (s - 1)) a acc o ec ef refl (idle-rule b g i (forest b (i + 1) (s - 1)) a acc ec ef h), idle-open a acc f h) at p
 
   module _ {c : ℕ} {f : Effect} {d : Decision} {next : Acc} {t : Bool} (q : k ≡ 3) (o : isOnly a ≡ false) (ec : c ≡ byteOf b i 1) (ef : f ≡ effectOf c)
       (ed : d ≡ ruleOf g (ruleAt b i (forest b (i + 1) (s - 1)))) (en : next ≡ absorb a acc f d) (et : t ≡ settled a next) where
     more : result a (if t next (walk a next (ruleChildren g (rulesIn b (forest b (i + s) (left - s)))))) ≡ w
     unfolding ruled rulesIn ruleChildren walk
-    more = rw et (rw (begins b i left h e, ← ek, q, takes-rule b g i (forest b (i + 1) (s - 1)) a acc o ec ef ed en) at p)
+    more = rw et (rw (begins b i left some e, ← ek, q, takes-rule b g i (forest b (i + 1) (s - 1)) a acc o ec ef ed en) at p)
 
     pub rules-stop : {x : Decision} → t ≡ true → x ≡ result a next → x ≡ w
     rules-stop z ex = ex ∙ (rw z at more)

@@ -317,6 +317,11 @@ pub fn rules(book: &[u8], request: &[u8], from: usize, count: usize, choice: usi
             continue;
         }
         let e = effect_of(record::byte(book, i, 1));
+        if algorithm::idles(a, acc, e) {
+            i += s;
+            left -= s;
+            continue;
+        }
         let d = rule(book, request, i, s);
         acc = algorithm::take_in(a, acc, e, d);
         if algorithm::settles(a, acc) {

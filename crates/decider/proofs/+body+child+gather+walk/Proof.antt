@@ -1,7 +1,6 @@
 use borrow.Author.Tests.{not-true, not-false}
 use Rattle.meaning.specs.Reading.{bagsOf}
-use Rattle.record.specs.Forest.{forest}
-use Rattle.decider.specs.Inside.{nestOf}
+use Rattle.record.specs.Forest.{forest, height}
 use Rattle.decider.proofs.Rooms.{deep-is, nest-kids, nest-rest, rooms}
 use Rattle.decider.proofs.Laws.{child-no, child-lost, child-yes, body-own, gather-rules, gather-walk, gather-nobody, gather-many, gather-one, picked-one, Sofar, walk-start, walk-skip, walk-turn, walk-stop, walk-end}
 use native.Mathlib.Omega.{arith}
@@ -134,7 +133,7 @@ gather-returns-5 : (t : ℕ) → gather-lts.Need-returns-5 (gather-calls t) (gat
 gather-returns-5 t c = gather-walk _ _ _ _ (c .before .before .before .before .before .before .before .before .before .byte .ensures .0) (c .before .before .before .before .before .before .before .before .byte2 .ensures .0) (c .before .before .before .before .before .before .before .if1 .left) (c .before .before .before .before .before .before .over-policies .ensures) (c .before .before .walk .ensures)
 
 abbrev walk-Inv-loop : walk-lts.InvT-loop
-walk-Inv-loop book request from count a depth out₀ n i₀ left₀ acc₀ m₀ out i left acc m = (i + left ≡ from + count) × (left ≤ count) × Sofar book (bagsOf request) a out₀ n from count i left acc out m × (nestOf (forest book i left) ≤ depth)
+walk-Inv-loop book request from count a depth out₀ n i₀ left₀ acc₀ m₀ out i left acc m = (i + left ≡ from + count) × (left ≤ count) × Sofar book (bagsOf request) a out₀ n from count i left acc out m × (height (forest book i left) ≤ depth)
 
 abbrev walk-μ-loop : walk-lts.MeasureT-loop
 walk-μ-loop book request from count a depth out₀ n i₀ left₀ acc₀ m₀ out i left acc m = left

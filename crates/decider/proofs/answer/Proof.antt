@@ -1,13 +1,11 @@
 use native.Mathlib.Omega.{arith}
-use Prim.Native.Nat.{_-_}
-use Rattle.decider.proofs.Rooms.{nest-le}
 use Rattle.decider.proofs.Whole.{room-all, answered}
 use borrow.Author.Needs.{needs}
 use Rattle.decider.proofs.answer.Statement.{statement}
 use Rattle.decider.proofs.answer.Tie as tie
 
 child-requires : tie.Need-child-requires
-child-requires c κs = (c .before .before .before .before .pre .0, omega (arith, c .before .before .before .before .pre .1), omega (arith, c .before .before .before .before .pre .2, room-all (c .before .before .before .before .args .book .now) (c .before .before .before .before .args .records) (c .before .before .before .before .pre .0)), omega (arith, nest-le (c .before .before .before .before .args .book .now) 1 (c .before .before .before .before .args .records - 1)))
+child-requires c κs = (c .before .before .before .before .pre .0, omega (arith, c .before .before .before .before .pre .1), omega (arith, c .before .before .before .before .pre .2, room-all (c .before .before .before .before .args .book .now) (c .before .before .before .before .args .records) (c .before .before .before .before .pre .0)), c .before .before .before .before .pre .3)
 
 clear-requires : tie.Need-clear-requires
 clear-requires c κs = omega (arith, c .before .before .before .child .ensures .puts .within, c .before .before .before .child .kept .1 .1 .1 .1 .1 .0, c .before .before .before .before .before .before .before .before .pre .2, room-all (c .before .before .before .before .before .before .before .before .args .book .now) (c .before .before .before .before .before .before .before .before .args .records) (c .before .before .before .before .before .before .before .before .pre .0))

@@ -8,7 +8,7 @@ returns : tie.Need-returns
 returns c = refused-room _ _ _ (c .before .before .before .before .before .before .before .before .judge-book .ensures) (c .before .before .before .before .before .before .records .given .1) (c .before .before .before .before .judge-request .ensures) (c .before .before .enum-told .given .1) (c .before .if1 .taken) (c .no-room .ensures)
 
 answer-requires : tie.Need-answer-requires
-answer-requires c κs = let w = accepted-has _ (c .before .before .before .before .before .before .before .before .judge-book .ensures) (c .before .before .before .before .before .before .records .given .1) in (w .0, w .1, omega (arith, w .2, c .before .if1 .left))
+answer-requires c κs = let w = accepted-has _ (c .before .before .before .before .before .before .before .before .judge-book .ensures) (c .before .before .before .before .before .before .records .given .1) in (w .0, w .1, omega (arith, w .2, c .before .if1 .left), w .3)
 
 returns-2 : tie.Need-returns-2
 returns-2 c = refused-book _ _ _ (c .before .before .before .judge-book .ensures) (c .before .r .given .1)

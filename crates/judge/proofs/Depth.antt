@@ -9,13 +9,17 @@ use mathlib.Core.Logic.{⊎-elim}
 use native.Mathlib.Nat.{eq-or-lt-of-le}
 use native.Mathlib.Omega.{arith}
 use Rattle.record.specs.Bytes.{spanOf}
-use Rattle.record.specs.Forest.{Forest, none, node, spanIn, forest}
+use Rattle.record.specs.Forest.{Forest, none, node, spanIn, forest, height}
 use Rattle.record.proofs.Forests.{forest-none, forest-step}
 use Rattle.judge.specs.Place.{endOf, depthOf}
 use Rattle.fields.specs.First.{countBelow}
 use Rattle.judge.specs.Sound.{Nested}
+use Rattle.judge.specs.Exactly.{Keeps}
+use Rattle.judge.specs.Judge.{judgeOf}
+use Rattle.judge.specs.declared.Judged.the-variants.{Accepted}
+use Rattle.judge.proofs.Exactly.{accepted-keeps}
+use Rattle.judge.proofs.Sound.{kept-nests}
 use Rattle.judge.proofs.Laws.{depth-under}
-use Rattle.translator.proofs.Counted.{height}
 
 height-none : (f : Forest) → f ≡ none → height f ≡ 0
 unfolding height
@@ -71,3 +75,9 @@ module _ (b : List ℕ) (n : ℕ) (w : Nested b n) where
       let d : depthOf b 0 ≡ 1 = refl in
       let z = deep (n - 1) 0 1 (n - 1) (omega arith) (omega arith) (omega (arith, e, h)) h (λ j x y. absurd (omega (arith, x, y))) in
       omega (arith, z, d)
+
+pub accepted-deep : (b : List ℕ) (n o : ℕ) → judgeOf b ≡ Accepted n o → height (forest b 1 (n - 1)) ≤ 15
+accepted-deep b n o e =
+    let k : Keeps b n = accepted-keeps b n o e .0 in
+    let d = book-deep b n (kept-nests b n k) (k .sized .some) in
+    omega (arith, d)
