@@ -9,6 +9,8 @@ struct Style {
     limit: usize,
     /// The root goes on until the limit is reached.
     fill: bool,
+    /// The chance that the root is a set.
+    root_set: usize,
     /// The deepest level at which a set may stand.
     set_depth: usize,
     /// The chance that a child of a set is a set.
@@ -27,6 +29,8 @@ struct Style {
     must_be_present: usize,
     /// Own obligations at most.
     obligations: usize,
+    /// The deepest level at which a record may have a target.
+    target_depth: usize,
 }
 
 impl Style {
@@ -34,6 +38,7 @@ impl Style {
         Style {
             limit: random.between(4, 40),
             fill: false,
+            root_set: 65,
             set_depth: random.between(1, 6),
             nest: random.pick(&[20, 40, 60]),
             children: random.between(1, 5),
@@ -43,6 +48,7 @@ impl Style {
             logic: random.pick(&[0, 30, 60]),
             must_be_present: random.pick(&[0, 15, 50]),
             obligations: random.between(0, 3),
+            target_depth: MOST_DEPTH,
         }
     }
 
@@ -66,11 +72,30 @@ impl Style {
                     nest: 15,
                     children,
                     sections: 3,
-                    obligations: 2,
+                    obligations: 3,
                     ..small
                 }
             }
+            600..=799 => Style::guarded(random, small),
             _ => small,
+        }
+    }
+
+    /// Obligations at every level, below targets that often ask for an attribute that must be present.
+    fn guarded(random: &mut Random, small: Style) -> Style {
+        Style {
+            limit: random.between(20, 60),
+            root_set: 100,
+            set_depth: 3,
+            nest: 70,
+            children: random.between(2, 5),
+            sections: 12,
+            matches: 1,
+            conditions: random.pick(&[0, 0, 30]),
+            must_be_present: 90,
+            obligations: 3,
+            target_depth: random.between(2, 3),
+            ..small
         }
     }
 }
@@ -98,7 +123,7 @@ pub fn small_book(random: &mut Random) -> Vec<Record> {
 
 fn generate(random: &mut Random, style: Style) -> Vec<Record> {
     let mut generator = Generator::new(random, style);
-    if generator.style.fill || generator.random.chance(65) {
+    if generator.style.fill || generator.random.chance(generator.style.root_set) {
         generator.set(1);
     } else {
         generator.policy(1);
@@ -283,13 +308,16 @@ impl<'r> Generator<'r> {
     }
 
     fn obligation(&mut self) {
-        let number = if self.random.chance(10) { 0 } else { self.random.next() as u16 };
+        let number = if self.random.chance(15) { self.random.pick(&[0, 0, 1]) } else { self.random.next() as u16 };
         let effect = self.random.between(1, 2) as u8;
         self.records.push(obligation(effect, number));
     }
 
     /// The sections of a record at this depth.
     fn target(&mut self, depth: usize) {
+        if depth > self.style.target_depth {
+            return;
+        }
         for category in 1..=4 {
             if depth + 3 <= MOST_DEPTH && self.room() >= 3 && self.random.chance(self.style.sections) {
                 self.section(category);

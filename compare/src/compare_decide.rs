@@ -7,7 +7,7 @@ use crate::judge::{self, refusals_of};
 use crate::lent::Lent;
 use crate::paper;
 use crate::random::Random;
-use crate::record::{book_bytes, request_bytes, Record, OBLIGATION};
+use crate::record::{book_bytes, records, request_bytes, Record, OBLIGATION};
 use crate::refusal::Part;
 use crate::requests;
 use crate::run::{hex, Difference};
@@ -33,11 +33,15 @@ pub fn wanted() -> Wanted {
 pub fn case(host: &dyn Host, random: &mut Random, tally: &mut Tally) -> Result<(), Difference> {
     let records = books::book(random);
     let entries = requests::request(random, &records);
-    let obligations = records.iter().filter(|record: &&Record| record.kind() == OBLIGATION).count();
-    let out = room(random, 2 * obligations, tally);
+    let out = room(random, needed(&records), tally);
     let book = if random.chance(6) { damage::book(random, records) } else { book_bytes(&records) };
     let request = if random.chance(6) { damage::request(random, entries) } else { request_bytes(&entries) };
     check(host, &book, &request, &out, tally)
+}
+
+/// The bytes of output that a book with these records needs.
+fn needed(records: &[Record]) -> usize {
+    2 * records.iter().filter(|record| record.kind() == OBLIGATION).count()
 }
 
 /// An output of some length with some content.
@@ -56,13 +60,11 @@ fn room(random: &mut Random, needed: usize, tally: &mut Tally) -> Vec<u8> {
 
 /// Counts the calls that could be refused for more than one part.
 fn count_faults(book: &[u8], request: &[u8], out: &[u8], tally: &mut Tally) {
-    let request_fault = judge::request(request).is_err();
-    match judge::book(book) {
-        Err(_) if request_fault => tally.met("faults at once", "book and request"),
-        Err(_) if out.is_empty() => tally.met("faults at once", "book and output"),
-        Ok(accepted) if request_fault && out.len() < 2 * accepted.obligations => {
-            tally.met("faults at once", "request and output")
-        }
+    let too_short = out.len() < needed(&records(book));
+    match (judge::book(book).is_err(), judge::request(request).is_err()) {
+        (true, true) => tally.met("faults at once", "book and request"),
+        (true, false) if too_short => tally.met("faults at once", "book and output"),
+        (false, true) if too_short => tally.met("faults at once", "request and output"),
         _ => {}
     }
 }

@@ -1,24 +1,12 @@
-//! Deciding: rules, policies, sets and obligations of document 01's section "What is decided".
+//! Deciding: rules, policies and sets of document 01's section "What is decided".
 
 use crate::judge::{self, Refused};
+use crate::obligations::{bare, wanted_obligations, Answer, CHILD_OF_ONLY_ONE};
 use crate::policy::*;
 use crate::refusal::too_short;
-use crate::tally::{pairs, words, Tally, Wanted};
+use crate::tally::{pairs, Tally, Wanted};
 use crate::truth::{wanted_truths, Evaluator, Truth};
 use Decision::{Deny, Indeterminate, NotApplicable, Permit};
-
-/// A decision with the obligations that are handed up.
-#[derive(Clone, PartialEq, Eq, Debug)]
-pub struct Answer {
-    pub decision: Decision,
-    pub obligations: Vec<u16>,
-    /// Over how many levels the obligations came up.
-    levels: usize,
-}
-
-fn bare(decision: Decision) -> Answer {
-    Answer { decision, obligations: Vec::new(), levels: 0 }
-}
 
 /// What the C host is to answer, with `out` as it is to be afterwards.
 pub fn host_call(book: &[u8], request: &[u8], out: &mut [u8], tally: &mut Tally) -> u64 {
@@ -51,6 +39,7 @@ pub fn decide(book: &[u8], request: &[u8], tally: &mut Tally) -> (Answer, u64) {
     let mut evaluator = Evaluator { attributes: &attributes, tally, asides: 0, looked_at: 0 };
     let answer = evaluator.policy(&root);
     evaluator.met("decision of the root", (root.name(), answer.decision.name()));
+    evaluator.count_answer(&answer);
     (answer, evaluator.looked_at)
 }
 
@@ -71,7 +60,7 @@ impl Evaluator<'_> {
         decision
     }
 
-    fn policy(&mut self, policy: &Policy) -> Answer {
+    pub fn policy(&mut self, policy: &Policy) -> Answer {
         self.look();
         let (decision, why) = match self.target(&policy.target) {
             Truth::True => return self.applicable(policy),
@@ -79,22 +68,20 @@ impl Evaluator<'_> {
             Truth::Unknown => (Indeterminate, "target Indeterminate"),
         };
         self.met("policy or set", (policy.name(), why));
-        if !policy.obligations.is_empty() {
-            self.met("own obligations lost", why);
-        }
+        self.count_lost_by_target(policy, policy.name(), why);
         bare(decision)
     }
 
     /// The answer of a policy or set whose target is Match.
-    fn applicable(&mut self, policy: &Policy) -> Answer {
+    pub fn applicable(&mut self, policy: &Policy) -> Answer {
         match &policy.children {
             Children::Rules(rules) => {
                 let decision = self.rules(policy.algorithm, rules);
-                self.conclude(policy, decision, Vec::new())
+                self.conclude(policy, decision, &[])
             }
             Children::Policies(policies) => {
                 let (decision, evaluated) = self.policies(policy.algorithm, policies);
-                self.conclude(policy, decision, evaluated)
+                self.conclude(policy, decision, &evaluated)
             }
         }
     }
@@ -196,18 +183,12 @@ impl Evaluator<'_> {
         let mut evaluated: Vec<Answer> = Vec::new();
         for (index, policy) in policies.iter().enumerate() {
             let answer = self.policy(policy);
-            let stop = stops(answer.decision);
-            self.met(
-                group,
-                if stop.is_some() {
-                    ("stopped by", answer.decision.name())
-                } else {
-                    ("goes on after", answer.decision.name())
-                },
-            );
+            let given = answer.decision;
+            let stop = stops(given);
+            self.met(group, (if stop.is_some() { "stopped by" } else { "goes on after" }, given.name()));
             evaluated.push(answer);
             if let Some(decision) = stop {
-                self.count_after_stop(decision, &policies[index + 1..]);
+                self.count_stop(group, decision, given, &policies[index..]);
                 self.met(group, (decision.name(), beside(decision, &evaluated)));
                 return (decision, evaluated);
             }
@@ -225,19 +206,21 @@ impl Evaluator<'_> {
     fn only_one(&mut self, policies: &[Policy]) -> (Decision, Vec<Answer>) {
         let group = "only-one-applicable";
         let mut applicable: Option<&Policy> = None;
-        for policy in policies {
+        for (index, policy) in policies.iter().enumerate() {
             self.look();
             match (self.target(&policy.target), applicable) {
-                (Truth::False, _) => {}
+                (Truth::False, _) => self.count_lost_by_target(policy, CHILD_OF_ONLY_ONE, "target No-match"),
                 (Truth::True, None) => applicable = Some(policy),
-                (Truth::True, Some(first)) => {
+                (Truth::True, Some(_)) => {
                     self.met(group, ("Indeterminate", "two Match"));
-                    self.count_two_applicable(first, policy);
+                    self.count_not_chosen("second Match", policies, index);
                     return (Indeterminate, Vec::new());
                 }
                 (Truth::Unknown, first) => {
                     let before = if first.is_some() { "a target, after a Match" } else { "a target" };
                     self.met(group, ("Indeterminate", before));
+                    self.count_lost_by_target(policy, CHILD_OF_ONLY_ONE, "target Indeterminate");
+                    self.count_not_chosen("target Indeterminate", policies, index);
                     return (Indeterminate, Vec::new());
                 }
             }
@@ -253,88 +236,6 @@ impl Evaluator<'_> {
                 self.met(group, (answer.decision.name(), "of the one that applies"));
                 (answer.decision, vec![answer])
             }
-        }
-    }
-
-    // Obligations
-
-    /// Those of evaluated children with the same decision, in child order, then the record's own.
-    fn conclude(&mut self, policy: &Policy, decision: Decision, evaluated: Vec<Answer>) -> Answer {
-        let mut answer = bare(decision);
-        if decision == NotApplicable || decision == Indeterminate {
-            if !policy.obligations.is_empty() {
-                self.met("own obligations lost", decision.name());
-            }
-            return answer;
-        }
-        let unknown_child = evaluated.iter().any(|child| child.decision == Indeterminate);
-        let mut givers = 0;
-        for child in evaluated.into_iter().filter(|child| !child.obligations.is_empty()) {
-            if child.decision == decision {
-                givers += 1;
-                answer.levels = answer.levels.max(child.levels + 1);
-                answer.obligations.extend(child.obligations);
-            } else {
-                self.met("child's obligations lost", (child.decision.name(), decision.name()));
-            }
-        }
-        policy.obligations.iter().for_each(|_| self.look());
-        let own = policy.obligations.iter().filter(|own| own.effect == decision);
-        let own: Vec<u16> = own.map(|own| own.number).collect();
-        if own.len() < policy.obligations.len() {
-            self.met("own obligations lost", "of the other effect");
-        }
-        if unknown_child && decision == Deny && !own.is_empty() {
-            self.met("own obligations kept", "Deny with an Indeterminate child");
-        }
-        self.count_kept(givers, &own, &answer);
-        answer.obligations.extend(own);
-        answer
-    }
-
-    fn count_kept(&mut self, givers: usize, own: &[u16], of_children: &Answer) {
-        let decision = of_children.decision.name();
-        let counts = [
-            (!own.is_empty(), "own obligations kept", decision),
-            (own.len() > 1, "own obligations kept", "several"),
-            (own.contains(&0), "own obligations kept", "number 0"),
-            (givers > 0, "child's obligations kept", decision),
-            (givers > 1, "child's obligations kept", "of several children"),
-            (givers > 0 && !own.is_empty(), "child's obligations kept", "with own after them"),
-            (of_children.levels > 1, "child's obligations kept", "over two levels or more"),
-        ];
-        for (holds, group, item) in counts {
-            if holds {
-                self.met(group, item);
-            }
-        }
-    }
-
-    /// Counts what children after the stop would have handed up.
-    fn count_after_stop(&mut self, decision: Decision, rest: &[Policy]) {
-        if self.asides > 0 {
-            return;
-        }
-        for policy in rest {
-            let answer = self.aside(|aside| aside.policy(policy));
-            if !answer.obligations.is_empty() {
-                let same = answer.decision == decision;
-                self.met(
-                    "child's obligations lost",
-                    ("after the stop", if same { "same decision" } else { "other decision" }),
-                );
-            }
-        }
-    }
-
-    /// Counts what two applicable children of an only-one set would have handed up.
-    fn count_two_applicable(&mut self, first: &Policy, second: &Policy) {
-        if self.asides > 0 {
-            return;
-        }
-        let answers = [first, second].map(|policy| self.aside(|aside| aside.applicable(policy)));
-        if answers.iter().any(|answer| !answer.obligations.is_empty()) {
-            self.met("child's obligations lost", "two applicable");
         }
     }
 }
@@ -358,6 +259,7 @@ pub fn wanted() -> Wanted {
     let decisions = ["Permit", "Deny", "NotApplicable", "Indeterminate"];
     let effects = ["Permit", "Deny"];
     let mut wanted = wanted_truths();
+    wanted.extend(wanted_obligations());
     wanted.extend([
         ("decision of the root", pairs(&["policy", "set"], &decisions)),
         ("rule", pairs(&effects, &["target No-match", "target Indeterminate", "no condition"])),
@@ -382,27 +284,20 @@ pub fn wanted() -> Wanted {
         ("only-one-applicable", pairs(&["Indeterminate"], &["two Match", "a target", "a target, after a Match"])),
         ("only-one-applicable", pairs(&["NotApplicable"], &["no children", "no Match"])),
         ("only-one-applicable", pairs(&decisions, &["of the one that applies"])),
-        ("own obligations kept", words(&["Permit", "Deny", "several", "number 0", "Deny with an Indeterminate child"])),
-        ("own obligations lost", words(&["of the other effect", "NotApplicable", "Indeterminate"])),
-        ("own obligations lost", words(&["target No-match", "target Indeterminate"])),
-        ("child's obligations kept", words(&["Permit", "Deny", "of several children"])),
-        ("child's obligations kept", words(&["with own after them", "over two levels or more"])),
-        (
-            "child's obligations lost",
-            vec![("Permit", "Deny").into(), ("Deny", "Permit").into(), "two applicable".into()],
-        ),
-        ("child's obligations lost", pairs(&["after the stop"], &["same decision", "other decision"])),
     ]);
-    for (group, strong, weak) in
-        [("deny-overrides over rules", "Deny", "Permit"), ("permit-overrides over rules", "Permit", "Deny")]
-    {
-        wanted.push((group, pairs(&[strong], &["stops", "after its Indeterminate rule"])));
-        wanted.push((group, pairs(&[weak], &["alone", "despite its Indeterminate rule"])));
-        wanted.push((
+    wanted.extend(wanted_overriding("deny-overrides over rules", "Deny", "Permit"));
+    wanted.extend(wanted_overriding("permit-overrides over rules", "Permit", "Deny"));
+    wanted
+}
+
+fn wanted_overriding(group: &'static str, strong: &'static str, weak: &'static str) -> Wanted {
+    vec![
+        (group, pairs(&[strong], &["stops", "after its Indeterminate rule"])),
+        (group, pairs(&[weak], &["alone", "despite its Indeterminate rule"])),
+        (
             group,
             pairs(&["Indeterminate"], &["overriding rule", "overriding rule, over the other effect", "other rule"]),
-        ));
-        wanted.push((group, pairs(&["NotApplicable"], &["no rules", "none applies"])));
-    }
-    wanted
+        ),
+        (group, pairs(&["NotApplicable"], &["no rules", "none applies"])),
+    ]
 }

@@ -13,6 +13,7 @@ mod decide;
 mod judge;
 mod lent;
 mod linked;
+mod obligations;
 mod once;
 mod paper;
 mod policy;

@@ -104,6 +104,19 @@ impl Policy {
             Children::Policies(_) => "set",
         }
     }
+
+    /// What the algorithm is called in the tables of counts.
+    pub fn algorithm_name(&self) -> &'static str {
+        match (self.algorithm, &self.children) {
+            (Algorithm::DenyOverrides, Children::Rules(_)) => "deny-overrides over rules",
+            (Algorithm::PermitOverrides, Children::Rules(_)) => "permit-overrides over rules",
+            (_, Children::Rules(_)) => "first-applicable over rules",
+            (Algorithm::DenyOverrides, _) => "deny-overrides over policies",
+            (Algorithm::PermitOverrides, _) => "permit-overrides over policies",
+            (Algorithm::FirstApplicable, _) => "first-applicable over policies",
+            (Algorithm::OnlyOneApplicable, _) => "only-one-applicable",
+        }
+    }
 }
 
 pub struct Attribute {

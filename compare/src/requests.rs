@@ -15,13 +15,14 @@ pub fn request(random: &mut Random, book: &[Record]) -> Vec<Entry> {
         }
     }
     let mut entries = Vec::new();
-    let mood = random.below(10);
+    let mood = random.below(12);
     for key in keys {
         let literals: Vec<&Record> = tests.iter().filter(|test| same_key(key, test)).copied().collect();
         let values = match mood {
             0 => 0,
             1..=4 => 1,
             5..=8 => random.pick(&[0, 1, 1, 1, 2, 3]),
+            9..=10 => random.below(2),
             _ => random.between(0, 4),
         };
         for _ in 0..values {

@@ -9,6 +9,7 @@ pub enum Item {
     Number(u64),
     Word(&'static str),
     Pair(&'static str, &'static str),
+    Triple(&'static str, &'static str, &'static str),
 }
 
 impl From<u64> for Item {
@@ -29,12 +30,19 @@ impl From<(&'static str, &'static str)> for Item {
     }
 }
 
+impl From<(&'static str, &'static str, &'static str)> for Item {
+    fn from((first, second, third): (&'static str, &'static str, &'static str)) -> Item {
+        Item::Triple(first, second, third)
+    }
+}
+
 impl fmt::Display for Item {
     fn fmt(&self, f: &mut fmt::Formatter) -> fmt::Result {
         match self {
             Item::Number(number) => write!(f, "{number}"),
             Item::Word(word) => write!(f, "{word}"),
             Item::Pair(first, second) => write!(f, "{first}, {second}"),
+            Item::Triple(first, second, third) => write!(f, "{first}, {second}, {third}"),
         }
     }
 }
@@ -53,6 +61,16 @@ pub fn numbers(list: impl IntoIterator<Item = u64>) -> Vec<Item> {
 pub fn pairs(firsts: &[&'static str], seconds: &[&'static str]) -> Vec<Item> {
     let with = |&first| seconds.iter().map(move |&second| Item::Pair(first, second));
     firsts.iter().flat_map(with).collect()
+}
+
+pub fn triples(firsts: &[&'static str], seconds: &[&'static str], thirds: &[&'static str]) -> Vec<Item> {
+    let mut list = Vec::new();
+    for &first in firsts {
+        for &second in seconds {
+            list.extend(thirds.iter().map(|&third| Item::Triple(first, second, third)));
+        }
+    }
+    list
 }
 
 #[derive(Default)]

@@ -12,12 +12,12 @@ use crate::decide;
 use crate::judge;
 use crate::paper;
 use crate::random::Random;
-use crate::record::book_bytes;
+use crate::record::*;
 use crate::refusal::{refuse, too_short, Part};
 use crate::rig::unpack;
 use crate::run::{compare, Cases};
 use crate::subject::{Field, Host, Judge, Rig, Texts, Tick, TickAnswer};
-use crate::tally::{Tally, Wanted};
+use crate::tally::{Item, Tally, Wanted};
 use crate::text;
 
 // Document 01's examples
@@ -83,6 +83,142 @@ fn ticks_are_unpacked() {
     );
     let refusal = refuse(8, Part::Programme);
     assert_eq!(unpack(refusal.packed()), Tick { answer: TickAnswer::Refused(refusal), steps: 0 });
+}
+
+// The counts
+
+const PERMIT: u8 = 1;
+const DENY: u8 = 2;
+const DENY_OVERRIDES: u8 = 1;
+const PERMIT_OVERRIDES: u8 = 2;
+const FIRST_APPLICABLE: u8 = 3;
+const ONLY_ONE: u8 = 4;
+
+/// A record with these children.
+fn with(kind: u8, choice: u8, children: &[Vec<Record>]) -> Vec<Record> {
+    let mut records = vec![books::record(kind, choice)];
+    records.extend(children.concat());
+    let span = records.len();
+    records[0].set_span(span);
+    records
+}
+
+fn duty(effect: u8) -> Vec<Record> {
+    vec![books::obligation(effect, 7)]
+}
+
+/// A policy that decides by its only rule, with an obligation that is due.
+fn deciding(effect: u8) -> Vec<Record> {
+    with(POLICY, FIRST_APPLICABLE, &[with(RULE, effect, &[]), duty(effect)])
+}
+
+/// A match or comparison with an attribute that the empty request does not have.
+fn absent(kind: u8, choice: u8, type_byte: u8) -> Vec<Record> {
+    let mut test = books::record(kind, choice);
+    test.0[4..6].copy_from_slice(&[1, type_byte]);
+    vec![test]
+}
+
+/// A policy that is Indeterminate, with a Deny obligation.
+fn unsure() -> Vec<Record> {
+    let condition = absent(CONDITION, COMPARISON + 1, INTEGER);
+    with(POLICY, FIRST_APPLICABLE, &[with(RULE, DENY, &[condition]), duty(DENY)])
+}
+
+/// A section that makes its target No-match, or Indeterminate if the attribute must be present.
+fn guard(must_be_present: bool) -> Vec<Record> {
+    let type_byte = if must_be_present { INTEGER + MUST_BE_PRESENT } else { INTEGER };
+    let mut section = with(SECTION, 0, &[with(CONJUNCTION, 0, &[absent(MATCH, 1, type_byte)])]);
+    section[0].0[4] = 1;
+    section
+}
+
+/// What deciding this book on the empty request counts.
+fn counts(book: &[Record]) -> Tally {
+    let bytes = book_bytes(book);
+    judge::book(&bytes).expect("the book is sound");
+    let mut tally = Tally::default();
+    decide::decide(&bytes, &[], &mut tally);
+    tally
+}
+
+fn met_once(tally: &Tally, group: &'static str, item: impl Into<Item> + Copy) {
+    assert_eq!(tally.count(group, item.into()), 1, "{group}: {}", item.into());
+}
+
+#[test]
+fn kept_obligations_are_counted() {
+    let set = with(SET, DENY_OVERRIDES, &[deciding(PERMIT), deciding(PERMIT), duty(PERMIT), duty(DENY)]);
+    let tally = counts(&set);
+    met_once(&tally, "child's obligations kept", ("deny-overrides over policies", "Permit"));
+    met_once(&tally, "child's obligations kept, of several children", ("deny-overrides over policies", "Permit"));
+    met_once(&tally, "child's obligations kept, own after them", ("deny-overrides over policies", "Permit"));
+    met_once(&tally, "own obligations kept", ("deny-overrides over policies", "Permit"));
+    met_once(&tally, "own obligations lost", ("deny-overrides over policies", "not due on Permit"));
+    met_once(&tally, "obligations of the answer", ("Permit", "over one level"));
+
+    let set = with(SET, ONLY_ONE, &[with(SET, PERMIT_OVERRIDES, &[unsure(), deciding(DENY)])]);
+    let tally = counts(&set);
+    met_once(
+        &tally,
+        "child's obligations kept beside an Indeterminate child",
+        ("permit-overrides over policies", "Deny"),
+    );
+    met_once(&tally, "child's obligations kept over two levels or more", ("only-one-applicable", "Deny"));
+    met_once(&tally, "own obligations lost", ("first-applicable over rules", "Indeterminate"));
+    met_once(&tally, "obligations of the answer", ("Deny", "over two levels"));
+}
+
+#[test]
+fn obligations_of_evaluated_children_that_are_lost_are_counted() {
+    let tally = counts(&with(SET, DENY_OVERRIDES, &[deciding(PERMIT), unsure(), deciding(DENY)]));
+    met_once(&tally, "child's obligations lost", ("Permit", "to an Indeterminate child"));
+    met_once(&tally, "child's obligations lost", ("Deny", "of the Indeterminate child that stops"));
+    met_once(
+        &tally,
+        "child's obligations lost after the stop",
+        ("deny-overrides over policies", "Indeterminate", "Deny"),
+    );
+    assert_eq!(tally.count("child's obligations lost", ("Permit", "to a Deny child")), 0);
+    met_once(&tally, "obligations of the answer", ("Deny", "none"));
+
+    let handed_up = with(SET, FIRST_APPLICABLE, &[deciding(DENY)]);
+    let tally = counts(&with(SET, PERMIT_OVERRIDES, &[handed_up, deciding(PERMIT)]));
+    met_once(&tally, "child's obligations lost", ("Deny", "to a Permit child"));
+    met_once(&tally, "child's obligations lost, another child's kept", ("Deny", "to a Permit child"));
+    met_once(&tally, "obligations handed up and lost", ("Deny", "to a Permit child", "after one level"));
+}
+
+#[test]
+fn obligations_of_records_not_evaluated_are_counted() {
+    let guarded = |must_be_present, child| with(SET, FIRST_APPLICABLE, &[guard(must_be_present), child, duty(DENY)]);
+    let to_only_one = "child's obligations lost to only-one-applicable";
+    let tally = counts(&with(SET, ONLY_ONE, &[deciding(PERMIT), guarded(true, deciding(DENY)), deciding(DENY)]));
+    met_once(&tally, to_only_one, ("target Indeterminate", "of one before it", "Permit"));
+    met_once(&tally, to_only_one, ("target Indeterminate", "of one after it", "Deny"));
+    let judged = ("child of only-one-applicable", "target Indeterminate", "Deny");
+    met_once(&tally, "children's obligations lost by a target", judged);
+
+    let tally = counts(&with(SET, ONLY_ONE, &[deciding(PERMIT), deciding(DENY)]));
+    met_once(&tally, to_only_one, ("second Match", "of one before it", "Permit"));
+    met_once(&tally, to_only_one, ("second Match", "its own", "Deny"));
+
+    let tally = counts(&guarded(false, with(SET, DENY_OVERRIDES, &[deciding(PERMIT)])));
+    met_once(&tally, "own obligations lost", ("set", "target No-match"));
+    met_once(&tally, "deeper obligations lost by a target", ("set", "target No-match", "Permit"));
+}
+
+#[test]
+fn an_output_is_too_short_only_for_obligations() {
+    let count = |book: &[u8], room| {
+        let mut tally = Tally::default();
+        assert_eq!(compare_decide::check(&Model(Plan::Right), book, &[], &vec![0; room], &mut tally), Ok(()));
+        tally.count("faults at once", "book and output")
+    };
+    let mut book = bytes_of(Part::Book, paper::A);
+    book[1] = 9;
+    assert_eq!((count(&book, 3), count(&book, 4)), (1, 0));
+    assert_eq!(count(&book[..16], 0), 0);
 }
 
 // The comparisons
