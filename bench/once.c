@@ -1,26 +1,63 @@
-/* Judges and decides the rig-like book once: bench/instructions counts what that takes.
- *   once plain|bachumoi|neither REQUEST
- * Run from the top of the repository. */
-#include "books.h"
+/* Does one thing once, by one side or by neither: bench/instructions counts what that takes.
+ *   once plain|bachumoi|neither judge|decide|translate|run REQUEST
+ * The book is the rig-like one. Run from the top of the repository. */
+#include "machine.h"
 #include "plain.h"
 
-#include <bachumoi.h>
+#include <stdbool.h>
 #include <stdio.h>
 #include <string.h>
 
+uint64_t probe_judge_book(const uint8_t *book, size_t book_len);
+
+static uint8_t book[MOST_BOOK], request[MOST_REQUEST], pairs[MOST_OUT];
+static size_t book_len, request_len;
+static struct programme programme;
+
+static uint64_t judge(bool proved)
+{
+    return proved ? probe_judge_book(book, book_len) : plain_judge_book(book, book_len);
+}
+
+static uint64_t decide(bool proved)
+{
+    return proved ? bachumoi_decide(book, book_len, request, request_len, pairs, MOST_OUT)
+                  : plain_decide(book, book_len, request, request_len, pairs, MOST_OUT);
+}
+
+static uint64_t translation(bool proved)
+{
+    static uint64_t room[BACHUMOI_MOST_PROGRAMME];
+    const struct machine *machine = proved ? proved_machine : &plain_machine;
+    return machine->translate(book, book_len, room, BACHUMOI_MOST_PROGRAMME);
+}
+
+/* The fresh state, and all steps in one tick. */
+static uint64_t whole_run(bool proved)
+{
+    static struct state state;
+    static uint16_t out[BACHUMOI_PLACES];
+    const struct machine *machine = proved ? proved_machine : &plain_machine;
+    fresh(machine, &state);
+    return tick(machine, &programme, request, request_len, &state, programme.length, out);
+}
+
 int main(int count, char **words)
 {
-    static uint8_t book[MOST_BOOK], request[MOST_REQUEST], out[MOST_OUT];
-    if (count != 3) {
-        fprintf(stderr, "usage: once plain|bachumoi|neither REQUEST\n");
+    static const struct {
+        const char *name;
+        uint64_t (*by)(bool proved);
+    } all[] = { { "judge", judge }, { "decide", decide }, { "translate", translation }, { "run", whole_run } };
+    if (count != 4) {
+        fprintf(stderr, "usage: once plain|bachumoi|neither judge|decide|translate|run REQUEST\n");
         return 2;
     }
-    size_t book_len = bytes_of_file("examples/rig/BOOK.HEX", book, MOST_BOOK);
-    size_t request_len = bytes_of_file(words[2], request, MOST_REQUEST);
+    book_len = bytes_of_file("examples/rig/BOOK.HEX", book, MOST_BOOK);
+    request_len = bytes_of_file(words[3], request, MOST_REQUEST);
+    translate(&plain_machine, book, book_len, &programme);
     uint64_t number = 0;
-    if (strcmp(words[1], "plain") == 0)
-        number = plain_decide(book, book_len, request, request_len, out, MOST_OUT);
-    else if (strcmp(words[1], "bachumoi") == 0)
-        number = bachumoi_decide(book, book_len, request, request_len, out, MOST_OUT);
+    for (size_t i = 0; i < sizeof all / sizeof *all; i++)
+        if (strcmp(words[1], "neither") != 0 && strcmp(words[2], all[i].name) == 0)
+            number = all[i].by(strcmp(words[1], "bachumoi") == 0);
     return bachumoi_refused(number);
 }
