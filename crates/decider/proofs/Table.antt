@@ -11,7 +11,8 @@ use Rattle.fields.specs.First.{countBelow, lastBelow, firstFrom}
 use Rattle.fields.specs.Fields.{kindOf, kindAt, typeOf, typeAt, finite, zeros, plainOk, sectionOk, comparesOk, obligationOk, fieldOk, obligationsOf}
 use Rattle.fields.specs.Entries.{entryOk}
 use Rattle.meaning.specs.Logic.{andAll, orAll, targetAll}
-use Rattle.meaning.specs.Meaning.{typeOf as keyType, gives, matchIn, matchOf, comparisonOf, conditionOf, conditionsOf, conjunctionOf, sectionOf, sectionsOf, targetOf, whenOf, ruleOf, combine, handed, ownOf, nodeOf, ruleChild, ruleChildren, childOf, childrenOf, decides, obliges}
+use Rattle.meaning.specs.Numbers.{typeOf as keyType}
+use Rattle.meaning.specs.Meaning.{gives, matchIn, matchOf, comparisonOf, conditionOf, conditionsOf, conjunctionOf, sectionOf, sectionsOf, targetOf, whenOf, ruleOf, combine, handed, ownOf, nodeOf, ruleChild, ruleChildren, childOf, childrenOf, decides, obliges}
 use Rattle.meaning.specs.Reading.{keyAt, testAt, matchAt, comparisonAt, rowOf, childrenAt, conjunctionAt, sectionAt, targetIn, conditionAt, conditionsIn, whenIn, ruleAt, rulesIn, obligationsIn, treeAt, treesIn, bookOf, bagFrom, bagsOf}
 use Rattle.meaning.specs.declared.Decision.{Decision}
 use Rattle.meaning.specs.declared.Decision.the-variants.{Permit, Deny, NotApplicable, Indeterminate}

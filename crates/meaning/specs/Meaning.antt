@@ -1,9 +1,10 @@
 -- What is decided: document 01, paragraph by paragraph. Of a request it knows only the bags. Assumes nothing.
-use Prim.Native.Nat.{ℕ, _/_, _%_}
+use Prim.Native.Nat.{ℕ}
 use mathlib.Core.Bool.{Bool, true, false}
 use mathlib.Core.List.{List, [], _∷_, _++_}
 use Rattle.record.specs.Choose.{if, both, either}
 use Rattle.value.specs.Value.{holdsOf}
+use Rattle.meaning.specs.Numbers.{typeOf}
 use Rattle.meaning.specs.Logic.{isUnknown, some, andAll, orAll, notOf, targetAll}
 use Rattle.meaning.specs.Policy.{Some, last, more, Conjunction, Section, Target, Condition, compares, all, any, not, Conditions, noPart, part, When, always, whenever, Rule, Obligation, OverRules, rulesDeny, rulesPermit, rulesFirst, OverPolicies, policiesDeny, policiesPermit, policiesFirst, policiesOnlyOne, Tree, policy, set, Trees, noTree, tree}
 use Rattle.meaning.specs.declared.Truth.{Truth}
@@ -19,10 +20,6 @@ use Rattle.meaning.specs.declared.Algorithm.the-variants.{RulesDeny, Rul
 -- **Bag.** The request values whose category, identifier and type are the record's, in request order.
 abbrev pub Bags : Type 0
 Bags = ℕ → List ℕ
-
--- a key is one number for category, type and identifier; the type that it names
-unfoldable pub typeOf : ℕ → ℕ
-typeOf key = key / 65536 % 256
 
 -- **Match.** The function takes the literal first, then the request value: greater means literal > request value.
 unfoldable pub gives : Test → ℕ → Bool

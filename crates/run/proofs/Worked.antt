@@ -8,7 +8,8 @@ use lib.ListN.{getD}
 use Rattle.record.specs.Choose.{if}
 use Rattle.value.specs.Value.{functionOf, holdsOf, valueOf, signed64, finiteOf}
 use Rattle.value.specs.declared.Function.the-variants.{Greater}
-use Rattle.meaning.specs.Meaning.{Bags, comparisonOf, gives, typeOf}
+use Rattle.meaning.specs.Numbers.{typeOf}
+use Rattle.meaning.specs.Meaning.{Bags, comparisonOf, gives}
 use Rattle.meaning.specs.declared.Effect.the-variants.{Permits, Denies}
 use Rattle.meaning.specs.declared.Decision.the-variants.{Deny}
 use Rattle.meaning.specs.declared.Algorithm.the-variants.{RulesDeny}

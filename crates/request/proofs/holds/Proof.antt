@@ -1,4 +1,5 @@
-use Rattle.meaning.specs.Meaning.{gives, typeOf}
+use Rattle.meaning.specs.Numbers.{typeOf}
+use Rattle.meaning.specs.Meaning.{gives}
 use borrow.Author.Needs.{needs}
 use Rattle.request.proofs.holds.Statement.{statement}
 use Rattle.request.proofs.holds.Tie as tie
