@@ -6,12 +6,12 @@ use Prim.Native.Nat.{ℕ, zero, suc, _/_, _%_}
 use Rattle.record.specs.Bytes.{bigOf, spanOf}
 use Rattle.record.specs.Forest.{spanIn, growF, forest}
 use Rattle.record.specs.Below.{allBelow}
-use Rattle.value.specs.Value.{signed64, finiteOf, valueOf, functionOf, holdsOf}
+use Rattle.value.specs.Value.{signed64, finiteOf, valueOf, functionOf}
 use Rattle.fields.specs.First.{countBelow, lastBelow, firstFrom}
 use Rattle.fields.specs.Fields.{kindOf, kindAt, typeOf, typeAt, finite, zeros, plainOk, sectionOk, comparesOk, obligationOk, fieldOk, obligationsOf}
 use Rattle.fields.specs.Entries.{entryOk}
 use Rattle.meaning.specs.Logic.{andAll, orAll, targetAll}
-use Rattle.meaning.specs.Numbers.{typeOf as keyType}
+use Rattle.meaning.specs.Numbers.{keyBy}
 use Rattle.meaning.specs.Meaning.{gives, matchIn, matchOf, comparisonOf, conditionOf, conditionsOf, conjunctionOf, sectionOf, sectionsOf, targetOf, whenOf, ruleOf, combine, handed, ownOf, nodeOf, ruleChild, ruleChildren, childOf, childrenOf, decides, obliges}
 use Rattle.meaning.specs.Reading.{keyAt, testAt, matchAt, comparisonAt, rowOf, childrenAt, conjunctionAt, sectionAt, targetIn, conditionAt, conditionsIn, whenIn, ruleAt, rulesIn, obligationsIn, treeAt, treesIn, bookOf, bagFrom, bagsOf}
 use Rattle.meaning.specs.declared.Decision.{Decision}
@@ -109,7 +109,7 @@ table : run bookA [] ∷ run bookA (is60 ∷ []) ∷ run bookA (is40 ∷ []) ∷
 unfolding run none one lines bytes bookA denySet permitSet onlySet twoSections oneConjunction is40 is50 is60 isMinus1
     outcomeOf outOf dutiesOf judgeOf judgeRecords judgeRequestOf judgeEntries placeOk brokenAt topOk childBroken childRule standsOk elderRank rankAt singleOf holdsConditions depthOf elderOf parentOf endOf
     entryOk obligationsOf fieldOk obligationOk comparesOk sectionOk plainOk zeros finite typeAt typeOf kindAt kindOf firstFrom lastBelow countBelow allBelow
-    decides obliges childOf childrenOf ruleChildren ruleChild nodeOf ownOf handed combine ruleOf whenOf targetOf sectionsOf sectionOf conjunctionOf conditionOf conditionsOf comparisonOf matchOf matchIn gives keyType
+    decides obliges childOf childrenOf ruleChildren ruleChild nodeOf ownOf handed combine ruleOf whenOf targetOf sectionsOf sectionOf conjunctionOf conditionOf conditionsOf comparisonOf matchOf matchIn gives keyBy
     bookOf treesIn treeAt obligationsIn rulesIn ruleAt whenIn conditionsIn conditionAt targetIn sectionAt conjunctionAt childrenAt rowOf comparisonAt matchAt testAt keyAt bagsOf bagFrom
-    forest growF spanIn spanOf bigOf functionOf holdsOf valueOf finiteOf signed64 andAll orAll targetAll
+    forest growF spanIn spanOf bigOf functionOf valueOf finiteOf signed64 andAll orAll targetAll
 table = refl

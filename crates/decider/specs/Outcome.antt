@@ -7,6 +7,7 @@ use lib.Dec.{ltb}
 use lib.ListN.{length, replicate}
 use Rattle.record.specs.Choose.{if}
 use Rattle.record.specs.Refusals.{noRoom}
+use Rattle.meaning.specs.Policy.{Key}
 use Rattle.meaning.specs.Meaning.{decides, obliges}
 use Rattle.meaning.specs.Reading.{bookOf, bagsOf}
 use Rattle.judge.specs.Judge.{judgeOf}
@@ -43,5 +44,5 @@ outOf b q l = filled (outcomeOf b q (length l)) (dutiesOf b q) l
 -- a request counts only through its bags: two that are accepted and have the same bags get the same outcome, and leave the same in the places
 abbrev pub CountsByBags : Type 0
 CountsByBags =
-    (b q r l : List ℕ) (n m : ℕ) → judgeRequestOf q ≡ request.Accepted n → judgeRequestOf r ≡ request.Accepted m → ((key : ℕ) → bagsOf q key ≡ bagsOf r key)
+    (b q r l : List ℕ) (n m : ℕ) → judgeRequestOf q ≡ request.Accepted n → judgeRequestOf r ≡ request.Accepted m → ((key : Key) → bagsOf q key ≡ bagsOf r key)
     → (outcomeOf b q (length l) ≡ outcomeOf b r (length l)) × (outOf b q l ≡ outOf b r l)

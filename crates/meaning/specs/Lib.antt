@@ -1,5 +1,5 @@
 pub mod Logic
-pub mod Numbers
 pub mod Policy
+pub mod Numbers
 pub mod Meaning
 pub mod Reading

@@ -3,10 +3,11 @@ use Prim.Native.Nat.{ℕ}
 use mathlib.Core.Bool.{Bool, true, false}
 use mathlib.Core.List.{List, [], _∷_, _++_}
 use Rattle.record.specs.Choose.{if, both, either}
-use Rattle.value.specs.Value.{holdsOf}
-use Rattle.meaning.specs.Numbers.{typeOf}
+use Rattle.value.specs.Value.{testOf}
+use Rattle.value.specs.declared.Value.{Value}
+use Rattle.meaning.specs.Numbers.{keyOf, literalOf}
 use Rattle.meaning.specs.Logic.{isUnknown, some, andAll, orAll, notOf, targetAll}
-use Rattle.meaning.specs.Policy.{Some, last, more, Conjunction, Section, Target, Condition, compares, all, any, not, Conditions, noPart, part, When, always, whenever, Rule, Obligation, OverRules, rulesDeny, rulesPermit, rulesFirst, OverPolicies, policiesDeny, policiesPermit, policiesFirst, policiesOnlyOne, Tree, policy, set, Trees, noTree, tree}
+use Rattle.meaning.specs.Policy.{Key, Some, last, more, Conjunction, Section, Target, Condition, compares, all, any, not, Conditions, noPart, part, When, always, whenever, Rule, Obligation, OverRules, rulesDeny, rulesPermit, rulesFirst, OverPolicies, policiesDeny, policiesPermit, policiesFirst, policiesOnlyOne, Tree, policy, set, Trees, noTree, tree}
 use Rattle.meaning.specs.declared.Truth.{Truth}
 use Rattle.meaning.specs.declared.Truth.the-variants.{True, False, Unknown}
 use Rattle.meaning.specs.declared.Test.{Test}
@@ -17,15 +18,16 @@ use Rattle.meaning.specs.declared.Decision.the-variants.{Permit, Deny, N
 use Rattle.meaning.specs.declared.Algorithm.{Algorithm}
 use Rattle.meaning.specs.declared.Algorithm.the-variants.{RulesDeny, RulesPermit, First, PoliciesDeny, PoliciesPermit, OnlyOne}
 
--- **Bag.** The request values whose category, identifier and type are the record's, in request order.
+-- **Bag.** The request values whose category, identifier and type are the record's, in request order: `bagsOf` in Reading.antt.
 abbrev pub Bags : Type 0
-Bags = ℕ → List ℕ
+Bags = Key → List Value
 
--- **Match.** The function takes the literal first, then the request value: greater means literal > request value.
-unfoldable pub gives : Test → ℕ → Bool
-gives t v = holdsOf (t .function) (typeOf (t .key)) (t .literal) v
+-- **Match.** The function takes the literal first, then the request value: greater means literal > request value. How values compare is in
+-- specs/Value.antt of crate `value`.
+unfoldable pub gives : Test → Value → Bool
+gives t v = testOf (t .function) (literalOf t) v
 
-abbrev pub empty : List ℕ → Bool
+abbrev pub empty : List Value → Bool
 empty [] = true
 empty (v ∷ vs) = false
 
@@ -34,20 +36,20 @@ truthOf true = True
 truthOf false = False
 
 -- True if some value gives True; else False. An empty bag gives False, or Indeterminate with must-be-present.
-unfoldable pub matchIn : Test → List ℕ → Truth
+unfoldable pub matchIn : Test → List Value → Truth
 matchIn t vs = if (some (gives t) vs) True (if (both (empty vs) (t .must)) Unknown False)
 
 unfoldable pub matchOf : Bags → Test → Truth
-matchOf g t = matchIn t (g (t .key))
+matchOf g t = matchIn t (g (keyOf t))
 
 -- **Comparison.** One-and-only: Indeterminate unless the bag has exactly one value, must-be-present or not; else the function, literal first.
-abbrev pub comparisonIn : Test → List ℕ → Truth
+abbrev pub comparisonIn : Test → List Value → Truth
 comparisonIn t [] = Unknown
 comparisonIn t (v ∷ []) = truthOf (gives t v)
 comparisonIn t (v ∷ w ∷ vs) = Unknown
 
 unfoldable pub comparisonOf : Bags → Test → Truth
-comparisonOf g t = comparisonIn t (g (t .key))
+comparisonOf g t = comparisonIn t (g (keyOf t))
 
 -- **Logic.** And, or, not: specs/Logic.antt.
 unfoldable mutual
@@ -221,7 +223,7 @@ binding Deny xs = xs
 binding NotApplicable xs = []
 binding Indeterminate xs = []
 
--- a policy or set, by its algorithm, target, children and own obligations
+-- a policy or set, by its algorithm, target, children and own obligations; no algorithm over policies asks for its effect
 unfoldable pub nodeOf : Algorithm → Truth → List Child → List Obligation → Child
 nodeOf a t cs os = record {
   target = t;

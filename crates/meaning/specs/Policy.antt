@@ -4,6 +4,12 @@ use mathlib.Core.List.{List}
 use Rattle.meaning.specs.declared.Test.{Test}
 use Rattle.meaning.specs.declared.Effect.{Effect}
 
+-- what a match or comparison asks for
+pub record Key : Type 0 where
+  pub category : ℕ
+  pub identifier : ℕ
+  pub type : ℕ
+
 -- one or more
 pub data Some (A : Type 0) : Type 0 where
   last : A → Some A

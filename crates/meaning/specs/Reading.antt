@@ -5,11 +5,13 @@ use mathlib.Core.Bool.{Bool}
 use mathlib.Core.List.{List, [], _∷_, _++_}
 use lib.Dec.{eqb, ltb}
 use lib.ListN.{length}
-use Rattle.record.specs.Choose.{if, either}
+use Rattle.record.specs.Choose.{if, both, either}
 use Rattle.record.specs.Bytes.{size, byteOf, bigOf}
 use Rattle.record.specs.Forest.{Forest, none, node, forest}
 use Rattle.value.specs.Value.{functionOf}
-use Rattle.meaning.specs.Policy.{Some, last, more, Conjunction, Section, Target, Condition, compares, all, any, not, Conditions, noPart, part, When, always, whenever, Rule, Obligation, OverRules, rulesDeny, rulesPermit, rulesFirst, OverPolicies, policiesDeny, policiesPermit, policiesFirst, policiesOnlyOne, Tree, policy, set, Trees, noTree, tree}
+use Rattle.value.specs.declared.Value.{Value}
+use Rattle.meaning.specs.Numbers.{keyBy, valueUnder}
+use Rattle.meaning.specs.Policy.{Key, Some, last, more, Conjunction, Section, Target, Condition, compares, all, any, not, Conditions, noPart, part, When, always, whenever, Rule, Obligation, OverRules, rulesDeny, rulesPermit, rulesFirst, OverPolicies, policiesDeny, policiesPermit, policiesFirst, policiesOnlyOne, Tree, policy, set, Trees, noTree, tree}
 use Rattle.meaning.specs.Meaning.{Bags}
 use Rattle.meaning.specs.declared.Test.{Test}
 use Rattle.meaning.specs.declared.Effect.{Effect}
@@ -122,10 +124,18 @@ treesIn b (node i kids rest) =
 unfoldable pub bookOf : List ℕ → Tree
 bookOf b = let kids = forest b 1 (length b / size - 1) in treeAt b 0 kids (treesIn b kids)
 
--- the values of the key among `left` entries from k on: bytes 0-3 are the key, 8-15 the value
-unfoldable pub bagFrom : List ℕ → ℕ → ℕ → ℕ → List ℕ
+-- the key of entry k: byte 0 category, 1 type, 2-3 identifier
+abbrev pub keyIn : List ℕ → ℕ → Key
+keyIn q k = keyBy (bigOf q (k * size) 4)
+
+abbrev pub sameKey : Key → Key → Bool
+sameKey a b = both (eqb (a .category) (b .category)) (both (eqb (a .identifier) (b .identifier)) (eqb (a .type) (b .type)))
+
+-- the values of the key among `left` entries from k on: bytes 8-15 are the value
+unfoldable pub bagFrom : List ℕ → Key → ℕ → ℕ → List Value
 bagFrom q key zero k = []
-bagFrom q key (suc left) k = if (eqb (bigOf q (k * size) 4) key) (bigOf q (k * size + 8) 8 ∷ []) [] ++ bagFrom q key left (k + 1)
+bagFrom q key (suc left) k =
+    if (sameKey (keyIn q k) key) (valueUnder key (bigOf q (k * size + 8) 8) ∷ []) [] ++ bagFrom q key left (k + 1)
 
 unfoldable pub bagsOf : List ℕ → Bags
 bagsOf q key = bagFrom q key (length q / size) 0

@@ -29,10 +29,10 @@ use Rattle.programme.specs.Core.{Changing, keep, push, swap, below, back
 use Rattle.programme.specs.Machine.{roomF, roomL, stackAfter, copies, placesAfter}
 use Rattle.programme.specs.Layout.{frameWord, levelWord, fetch}
 use Rattle.programme.specs.Step.{inWords, after, seen, mayStep, stepOf}
-use Rattle.programme.specs.Local.{keyOf, headOf, entryAt, SameSight, outOf, DependsOnNoMore, ChangesNoMore, Obliges, PutsNoMore}
+use Rattle.programme.specs.Local.{asked, headOf, entryAt, SameSight, outOf, DependsOnNoMore, ChangesNoMore, Obliges, PutsNoMore}
 
 -- one bag
-core-bag : (e : Entry) (g h : Bags) → g (keyOf e) ≡ h (keyOf e) → (x : Head) (l m : Level) (f b : Frame) → core g x e l m f b ≡ core h x e l m f b
+core-bag : (e : Entry) (g h : Bags) → g (asked e) ≡ h (asked e) → (x : Head) (l m : Level) (f b : Frame) → core g x e l m f b ≡ core h x e l m f b
 unfolding core matchOf comparisonOf
 core-bag (begin al c) g h e x l m f b = refl
 core-bag (match t k c s i j y) g h e x l m f b = rw e refl

@@ -17,7 +17,7 @@ use Rattle.programme.specs.Machine.{heightAfter, stackAfter, placesAfter
 use Rattle.programme.specs.Layout.{levelOf, levelWord, frameOf, frameWord, unpackOf, packOf, allowed, fetch}
 use Rattle.programme.specs.Step.{inWords, headAfter, after, seen, mayStep, stepOf, steppedOf, stateOf}
 use Rattle.programme.specs.Moves.{Ranged, changeOf, changingOf, moveOf, metIf, meets, Placed, headWith}
-use Rattle.programme.proofs.Coding.{ranged, allowed-pack}
+use Rattle.programme.proofs.Coding.{ranged}
 use Rattle.programme.proofs.Forward.{placed-core, lawful-parts, step-forward}
 
 -- a change in numbers is the same change
@@ -66,11 +66,11 @@ module _ (p : List ℕ) (g : Bags) (s : State) where
     unfolding meets mayStep seen
     met-is = rw (d, n, u) at q
 
-    pub step-outside : allowed (s .head) ≡ true → r ≡ Outside → (false ≡ mayStep p s) × (s ≡ steppedOf p g s .state) × (allowed (s .head) ≡ true)
+    pub step-outside : r ≡ Outside → (false ≡ mayStep p s) × (s ≡ steppedOf p g s .state)
     unfolding steppedOf
-    step-outside a e =
+    step-outside e =
         let k : mayStep p s ≡ false = found-none (mayStep p s) (moveOf outcome) (extra entry) (sym e ∙ met-is) in
-        rw k (refl, refl, a)
+        rw k (refl, refl)
 
     module _ (a : allowed (s .head) ≡ true) (l : length p ≤ 8008) (m : Move) (further : ℕ) (e : r ≡ Does m further) where
       found : (mayStep p s ≡ true) × (m ≡ moveOf outcome) × (further ≡ extra entry)
@@ -86,11 +86,11 @@ module _ (p : List ℕ) (g : Bags) (s : State) where
       pub step-needs : Ranged h × Ranged (headWith h further m) × Placed (m .placing) (h .permits) (h .denies)
       step-needs = rw (u, found .1, found .2, with-is heads entry outcome) (ranged (s .head) a, after-ranged, placed)
 
-      pub step-taken : (head : ℕ) (frames levels places : List ℕ) → head ≡ packOf (headWith h further m)
+      pub step-taken : (head : Head) (frames levels places : List ℕ) → head ≡ headWith h further m
           → frames ≡ stackAfter 17 (changingOf (m .frames)) (h .depth) (s .frames)
           → levels ≡ stackAfter 15 (changingOf (m .levels)) (h .nest) (s .levels)
           → places ≡ placesAfter (m .placing) (h .cut) (h .permits) (h .denies) (s .places)
-          → (true ≡ mayStep p s) × (stateOf head frames levels places ≡ steppedOf p g s .state) × (allowed head ≡ true)
+          → (true ≡ mayStep p s) × (stateOf (packOf head) frames levels places ≡ steppedOf p g s .state) × Ranged head
       unfolding steppedOf stepOf after
       step-taken head frames levels places eh ef el ep =
           rw (
@@ -106,7 +106,4 @@ module _ (p : List ℕ) (g : Bags) (s : State) where
             words-same frameWord (outcome .frames),
             words-same levelWord (outcome .levels),
           )
-          (refl, refl, allowed-pack (headAfter heads entry outcome) after-ranged)
-
-pub in-range : (h : Head) (n : ℕ) → h ≡ unpackOf n → allowed n ≡ true → Ranged h
-in-range h n u a = rw u (ranged n a)
+          (refl, refl, after-ranged)

@@ -5,6 +5,8 @@ use mathlib.Core.Path.{_≡_}
 use mathlib.Core.Logic.{_⊎_}
 use mathlib.Core.List.{List}
 use lib.ListN.{length, getD}
+use Rattle.meaning.specs.Policy.{Key}
+use Rattle.meaning.specs.Numbers.{keyBy, keyOf}
 use Rattle.meaning.specs.Meaning.{Bags}
 use Rattle.programme.specs.declared.Head.{Head}
 use Rattle.programme.specs.declared.State.{State}
@@ -14,20 +16,20 @@ use Rattle.programme.specs.Layout.{unpackOf, fetch}
 use Rattle.programme.specs.Step.{seen, mayStep, stepOf}
 
 -- the key of the one bag that a step may ask for
-abbrev pub keyOf : Entry → ℕ
-keyOf (begin al c) = 0
-keyOf (match t m c l i j x) = t .key
-keyOf further = 0
-keyOf (opens op) = 0
-keyOf (compare t n) = t .key
-keyOf (close n) = 0
-keyOf (rule e n) = 0
-keyOf (enter al) = 0
-keyOf (applies n) = 0
-keyOf (conclude n) = 0
-keyOf (oblige e n) = 0
-keyOf (leave n) = 0
-keyOf finish = 0
+abbrev pub asked : Entry → Key
+asked (begin al c) = keyBy 0
+asked (match t m c l i j x) = keyOf t
+asked further = keyBy 0
+asked (opens op) = keyBy 0
+asked (compare t n) = keyOf t
+asked (close n) = keyBy 0
+asked (rule e n) = keyBy 0
+asked (enter al) = keyBy 0
+asked (applies n) = keyBy 0
+asked (conclude n) = keyBy 0
+asked (oblige e n) = keyBy 0
+asked (leave n) = keyBy 0
+asked finish = keyBy 0
 
 abbrev pub headOf : State → Head
 headOf s = unpackOf (s .head)
@@ -47,7 +49,7 @@ pub record SameSight (p q : List ℕ) (g h : Bags) (s t : State) : Type 0 where
   pub frame-below : getD (s .frames) (headOf s .depth - 1) 0 ≡ getD (t .frames) (headOf s .depth - 1) 0
   pub level : getD (s .levels) (headOf s .nest) 0 ≡ getD (t .levels) (headOf s .nest) 0
   pub level-below : getD (s .levels) (headOf s .nest - 1) 0 ≡ getD (t .levels) (headOf s .nest - 1) 0
-  pub bag : g (keyOf (entryAt p s)) ≡ h (keyOf (entryAt p s))
+  pub bag : g (asked (entryAt p s)) ≡ h (asked (entryAt p s))
 
 -- what a step does, before it is carried out
 abbrev pub outOf : List ℕ → Bags → State → Out

@@ -14,11 +14,11 @@ use meaning::Effect;
 use meaning::Test;
 use meaning::Truth;
 ghost use mathlib.Core.Path.{_≡_};
-ghost use mathlib.Core.Bool.{true};
 ghost use Prim.Native.Nat.{_≤_};
 ghost use lib.ListN.{length};
 ghost use Rattle.meaning.specs.Reading.{bagsOf};
-ghost use Rattle.programme.specs.Layout.{allowed};
+ghost use Rattle.programme.specs.Layout.{packOf};
+ghost use Rattle.programme.specs.Moves.{Ranged};
 ghost use Rattle.programme.specs.Step.{mayStep, steppedOf, stateOf};
 
 // What a condition that is open does with its parts.
@@ -109,29 +109,29 @@ pub struct State {
     pub places: [u16; 1000],
 }
 
-// Whether the step could be taken, and the first number after it.
+// Whether the step could be taken, and the first number after it, taken apart.
 pub struct Went {
     pub ok: bool,
-    pub head: u64,
+    pub head: Head,
 }
 
-// One step, with the arrays of the state lent. Where it meets entries outside their layout, the state stays as it is.
+// One step, with the first number taken apart and the arrays of the state lent. Where it meets entries outside their layout, the state stays as
+// it is.
 pub fn step_in(
     programme: &[u64],
     request: &[u8],
-    head: u64,
+    h: Head,
     frames: &mut [u64; 17],
     levels: &mut [u64; 15],
     places: &mut [u16; 1000],
 ) -> Went
-    requires { ⌜ (length (now programme) ≤ 8008) × (allowed head ≡ true) ⌝ }
-    ensures { λ r. ⌜ (r .ok ≡ mayStep (now (programme .entry)) (stateOf head (now (frames .entry)) (now (levels .entry)) (now (places .entry))))
-        × (stateOf (r .head) (now (frames .exit)) (now (levels .exit)) (now (places .exit))
+    requires { ⌜ (length (now programme) ≤ 8008) × Ranged h ⌝ }
+    ensures { λ r. ⌜ (r .ok ≡ mayStep (now (programme .entry)) (stateOf (packOf h) (now (frames .entry)) (now (levels .entry)) (now (places .entry))))
+        × (stateOf (packOf (r .head)) (now (frames .exit)) (now (levels .exit)) (now (places .exit))
         ≡ steppedOf (now (programme .entry)) (bagsOf (now (request .entry)))
-        (stateOf head (now (frames .entry)) (now (levels .entry)) (now (places .entry))) .state)
-        × (allowed (r .head) ≡ true) ⌝ }
+        (stateOf (packOf h) (now (frames .entry)) (now (levels .entry)) (now (places .entry))) .state)
+        × Ranged (r .head) ⌝ }
 {
-    let h = words::unpack(head);
     let depth = h.depth as usize;
     let nest = h.nest as usize;
     let frame = frames[depth];
@@ -140,7 +140,7 @@ pub fn step_in(
     let outer = levels[carry::lower(nest)];
     let met = entries::meet(programme, request, h, level, outer, frame, under);
     match met {
-        Met::Outside => Went { ok: false, head },
+        Met::Outside => Went { ok: false, head: h },
         Met::Does(m, further) => {
             let after = carry::carry_out(h, m, further, frames, levels, places);
             Went {

@@ -1,5 +1,5 @@
 -- One law for each way in which a function of this crate returns, over plain variables. Assumes nothing.
-use Prim.Native.Nat.{ℕ, suc, _+_, _-_, _<_, _≤_}
+use Prim.Native.Nat.{ℕ, zero, suc, _+_, _-_, _<_, _≤_}
 use mathlib.Core.Path.{_≡_, refl, sym, ap, _∙_}
 use mathlib.Core.Bool.{Bool, true, false}
 use mathlib.Core.List.{List, [], _∷_, _++_, append-assoc, append-nil}
@@ -23,15 +23,15 @@ use Rattle.judge.specs.declared.JudgedRequest.{JudgedRequest}
 use Rattle.judge.specs.declared.JudgedRequest.the-variants as judged
 use Rattle.programme.specs.declared.Head.{Head}
 use Rattle.programme.specs.declared.State.{State}
-use Rattle.programme.specs.Layout.{unpackOf, allowed}
+use Rattle.programme.specs.Layout.{unpackOf, packOf, allowed}
 use Rattle.programme.specs.Moves.{Ranged}
-use Rattle.programme.specs.Step.{mayStep, stepOf, steppedOf, isOver, countBy}
-use Rattle.programme.proofs.Coding.{ranged}
+use Rattle.programme.specs.Step.{mayStep, stepOf, steppedOf, stateOf, seen, after, isOver, countBy}
+use Rattle.programme.proofs.Coding.{ranged, held, unpack-pack}
 use Rattle.run.specs.declared.kinds.Answer.{Answer}
 use Rattle.run.specs.declared.kinds.Answer.the-variants.{Running, Finished, Refused}
 use Rattle.run.specs.declared.kinds.Ran.{Ran}
 use Rattle.run.specs.declared.kinds.Tick.{Tick}
-use Rattle.run.specs.Run.{goOn, runOf}
+use Rattle.run.specs.Run.{goOn, runOf, numberAfter}
 use Rattle.run.specs.Tick.{admitted, countOf, obligationsOf, answered, ranOf, tickOf}
 use Rattle.run.proofs.Runs.{runs-stay-allowed}
 
@@ -46,26 +46,82 @@ Along p g b s k t = runOf p g b s ≡ later k (runOf p g (b - k) t)
 pub run-start : (p : List ℕ) (g : Bags) (b : ℕ) (s : State) → Along p g b s 0 s
 run-start p g b s = rw (sub-zero, zero-add) refl
 
-pub run-out : (p : List ℕ) (g : Bags) (b k : ℕ) (s t : State) → b ≤ k → Along p g b s k t → runOf p g b s ≡ record { ok = true; state = t; steps = k }
+pub run-out : (p : List ℕ) (g : Bags) (b k n x : ℕ) (s : State) (fs ls ps : List ℕ) → b ≤ k → Along p g b s k (stateOf n fs ls ps) → x ≡ n
+    → runOf p g b s ≡ record { ok = true; state = stateOf x fs ls ps; steps = k }
 unfolding runOf
-run-out p g b k s t e i = let z : b - k ≡ 0 = omega arith in i ∙ rw (z, add-zero) refl
+run-out p g b k n x s fs ls ps e i f = let z : b - k ≡ 0 = omega arith in i ∙ rw (z, add-zero, f) refl
 
-module _ (p : List ℕ) (g : Bags) (b k : ℕ) (s t : State) (l : k < b) (i : Along p g b s k t) (o : Bool) (over : o ≡ unpackOf (t .head) .over) where
-  unroll : runOf p g b s ≡ later k (goOn o (mayStep p t) t (runOf p g (b - (k + 1)) (stepOf p g t)))
-  unfolding runOf isOver
-  unroll = let e : b - k ≡ suc (b - (k + 1)) = omega arith in i ∙ rw (e, over) refl
+-- the first number, taken apart, after one more step
+pub number-made : (k start x : ℕ) (h : Head) → 0 < k → x ≡ packOf h → x ≡ numberAfter k start h
+number-made zero start x h l e = absurd (omega arith)
+number-made (suc k) start x h l e = e
 
-  pub run-over : o ≡ true → runOf p g b s ≡ record { ok = true; state = t; steps = k }
-  run-over e = unroll ∙ rw (e, add-zero) refl
+number-on : (k start : ℕ) (h : Head) → numberAfter (k + 1) start h ≡ packOf h
+number-on k start h = rw (add-one k) refl
+
+apart : (h : Head) → Ranged h → h ≡ unpackOf (packOf h)
+apart h r = sym (unpack-pack h (held h r))
+
+pub apart-on : (k start : ℕ) (h : Head) → Ranged h → h ≡ unpackOf (numberAfter (k + 1) start h)
+apart-on k start h r = rw (number-on k start h) (apart h r)
+
+-- k steps have led to w, and a step from w is a step from t
+module _ (p : List ℕ) (g : Bags) (b k : ℕ) (s w t : State) (l : k < b) (i : Along p g b s k w) (o : Bool) (over : isOver w ≡ o)
+    (same-may : mayStep p w ≡ mayStep p t) (same-step : stepOf p g w ≡ stepOf p g t) where
+  unroll : runOf p g b s ≡ later k (goOn o (mayStep p t) w (runOf p g (b - (k + 1)) (stepOf p g t)))
+  unfolding runOf
+  unroll = let e : b - k ≡ suc (b - (k + 1)) = omega arith in i ∙ rw (e, over, same-may, same-step) refl
+
+  over-here : o ≡ true → runOf p g b s ≡ record { ok = true; state = w; steps = k }
+  over-here e = unroll ∙ rw (e, add-zero) refl
 
   module _ (e : o ≡ false) (m : Bool) (u : State) (may : m ≡ mayStep p t) (went : u ≡ steppedOf p g t .state) where
-    pub run-bad : m ≡ false → runOf p g b s ≡ record { ok = false; state = u; steps = k }
+    bad-here : m ≡ false → (runOf p g b s ≡ record { ok = false; state = w; steps = k }) × (u ≡ t)
     unfolding steppedOf
-    run-bad f = unroll ∙ rw (went, e, ← may, f, add-zero) refl
+    bad-here f = (unroll ∙ rw (e, ← may, f, add-zero) refl, went ∙ rw (← may, f) refl)
 
-    pub run-more : m ≡ true → Along p g b s (k + 1) u
+    on-from-here : m ≡ true → Along p g b s (k + 1) u
     unfolding steppedOf
-    run-more f = unroll ∙ rw (went, e, ← may, f, add-assoc) refl
+    on-from-here f = unroll ∙ rw (went, e, ← may, f, add-assoc) refl
+
+-- a step from a first number n is the step from its fields h put together, whatever number n was
+module _ (p : List ℕ) (g : Bags) (n : ℕ) (fs ls ps : List ℕ) (h : Head) (r : Ranged h) (u : h ≡ unpackOf n) where
+  abbrev given : State
+  given = stateOf n fs ls ps
+
+  abbrev made : State
+  made = stateOf (packOf h) fs ls ps
+
+  same : unpackOf n ≡ unpackOf (packOf h)
+  same = sym u ∙ apart h r
+
+  same-may : mayStep p given ≡ mayStep p made
+  unfolding mayStep
+  same-may = rw same refl
+
+  same-step : stepOf p g given ≡ stepOf p g made
+  unfolding stepOf seen after
+  same-step = rw same refl
+
+  same-over : isOver given ≡ h .over
+  unfolding isOver
+  same-over = ap (λ (x : Head). x .over) (sym u)
+
+  module _ (b k : ℕ) (s : State) (l : k < b) (i : Along p g b s k given) where
+    pub run-over : h .over ≡ true → (x : ℕ) → x ≡ n → runOf p g b s ≡ record { ok = true; state = stateOf x fs ls ps; steps = k }
+    run-over e x f = rw f (over-here p g b k s given made l i (h .over) same-over same-may same-step e)
+
+    module _ (e : h .over ≡ false) (m : Bool) (t : Head) (gs ms qs : List ℕ) (may : m ≡ mayStep p made)
+        (went : stateOf (packOf t) gs ms qs ≡ steppedOf p g made .state) where
+      pub run-bad : m ≡ false → (x : ℕ) → x ≡ n → runOf p g b s ≡ record { ok = false; state = stateOf x gs ms qs; steps = k }
+      run-bad f x q =
+          let w = bad-here p g b k s given made l i (h .over) same-over same-may same-step e m (stateOf (packOf t) gs ms qs) may went f in
+          w .0 ∙ rw (q, ap (λ (z : State). z .frames) (w .1), ap (λ (z : State). z .levels) (w .1), ap (λ (z : State). z .places) (w .1)) refl
+
+      pub run-more : (start : ℕ) → m ≡ true → Along p g b s (k + 1) (stateOf (numberAfter (k + 1) start t) gs ms qs)
+      run-more start f =
+          rw (number-on k start t)
+          (on-from-here p g b k s given made l i (h .over) same-over same-may same-step e m (stateOf (packOf t) gs ms qs) may went f)
 
 -- the programme and the first number that a tick admits
 pub stacks-small : (head : ℕ) (h : Head) → h ≡ unpackOf head → h .cut + h .denies < 2048

@@ -3,13 +3,15 @@ use Prim.Native.Nat.{ℕ, _+_}
 use mathlib.Core.Path.{_≡_, refl}
 use mathlib.Core.Bool.{true, false}
 use mathlib.Core.List.{List, [], _∷_, _++_}
-use lib.Dec.{eqb}
 use lib.ListN.{getD}
+use lib.IntN.{pos}
 use Rattle.record.specs.Choose.{if}
-use Rattle.value.specs.Value.{functionOf, holdsOf, valueOf, signed64, finiteOf}
+use Rattle.value.specs.Value.{functionOf, valueOf, signed64, finiteOf}
+use Rattle.value.specs.declared.Value.the-variants.{Integer}
 use Rattle.value.specs.declared.Function.the-variants.{Greater}
-use Rattle.meaning.specs.Numbers.{typeOf}
+use Rattle.meaning.specs.Numbers.{keyBy}
 use Rattle.meaning.specs.Meaning.{Bags, comparisonOf, gives}
+use Rattle.meaning.specs.Reading.{sameKey}
 use Rattle.meaning.specs.declared.Effect.the-variants.{Permits, Denies}
 use Rattle.meaning.specs.declared.Decision.the-variants.{Deny}
 use Rattle.meaning.specs.declared.Algorithm.the-variants.{RulesDeny}
@@ -48,7 +50,7 @@ written = refl
 
 -- environment attribute 7 is 40
 abbrev asked : Bags
-asked k = if (eqb k 0x04010007) (40 ∷ []) []
+asked k = if (sameKey k (record { category = 4; identifier = 7; type = 1 })) (Integer (pos 40) ∷ []) []
 
 -- eight steps of twenty, and then Deny with obligation 18
 ran : (runOf page asked 20 freshOf .ok ≡ true) × (runOf page asked 20 freshOf .steps ≡ 8)
@@ -56,5 +58,5 @@ ran : (runOf page asked 20 freshOf .ok ≡ true) × (runOf page asked 20 freshOf
     × (unpackOf (runOf page asked 20 freshOf .state .head) .reg ≡ Deny)
     × (unpackOf (runOf page asked 20 freshOf .state .head) .denies ≡ 1)
     × (getD (runOf page asked 20 freshOf .state .places) 0 7 ≡ 18)
-unfolding runOf isOver mayStep stepOf after headAfter seen core lawful copies fetch entryOf entryBy compareBy testOf unpackOf packOf truthBy decisionBy effectBy algorithmBy accBy rankBy frameOf frameWord levelOf levelWord freshOf comparisonOf gives typeOf functionOf holdsOf valueOf signed64 finiteOf
+unfolding runOf isOver mayStep stepOf after headAfter seen core lawful copies fetch entryOf entryBy compareBy testOf unpackOf packOf truthBy decisionBy effectBy algorithmBy accBy rankBy frameOf frameWord levelOf levelWord freshOf comparisonOf gives keyBy functionOf valueOf signed64 finiteOf
 ran = (refl, refl, refl, refl, refl, refl)

@@ -3,7 +3,9 @@ use Prim.Native.Nat.{ℕ, zero, suc, _+_}
 use mathlib.Core.Bool.{Bool, true, false}
 use mathlib.Core.List.{List}
 use Rattle.meaning.specs.Meaning.{Bags}
+use Rattle.programme.specs.declared.Head.{Head}
 use Rattle.programme.specs.declared.State.{State}
+use Rattle.programme.specs.Layout.{packOf}
 use Rattle.programme.specs.Step.{mayStep, stepOf, isOver}
 use Rattle.run.specs.declared.kinds.Ran.{Ran}
 
@@ -23,3 +25,8 @@ goOn false true s r = oneMore r
 unfoldable pub runOf : List ℕ → Bags → ℕ → State → Ran
 runOf p g zero s = stay true s
 runOf p g (suc n) s = goOn (isOver s) (mayStep p s) s (runOf p g n (stepOf p g s))
+
+-- the first number after k steps that led from the one given to these fields: the one given, if there was no step
+abbrev pub numberAfter : ℕ → ℕ → Head → ℕ
+numberAfter zero start h = start
+numberAfter (suc k) start h = packOf h

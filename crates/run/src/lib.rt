@@ -43,9 +43,10 @@ ghost use Prim.Native.Nat.{_-_, _≤_};
 ghost use lib.ListN.{length, take, drop, replicate};
 ghost use Rattle.record.specs.Choose.{if};
 ghost use Rattle.meaning.specs.Reading.{bagsOf};
-ghost use Rattle.programme.specs.Layout.{allowed, unpackOf};
+ghost use Rattle.programme.specs.Layout.{allowed};
+ghost use Rattle.programme.specs.Moves.{Held};
 ghost use Rattle.programme.specs.Step.{countBy, freshOf, stateOf};
-ghost use Rattle.run.specs.Run.{runOf};
+ghost use Rattle.run.specs.Run.{runOf, numberAfter};
 ghost use Rattle.run.specs.Tick.{admitted, tickOf};
 ghost use Rattle.run.specs.declared.kinds.Answer.the-variants.{Running, Finished, Refused};
 
@@ -67,13 +68,6 @@ pub fn fresh() -> State
     }
 }
 
-// Whether the first number says that the run is finished (2^60).
-fn is_over(head: u64) -> bool
-    ensures { λ r. ⌜ r ≡ unpackOf head .over ⌝ }
-{
-    head / 1152921504606846976 % 2 == 1
-}
-
 // How a run ended, apart from the arrays: whether each step could be taken, the first number, and the steps taken.
 struct Ended {
     ok: bool,
@@ -81,7 +75,18 @@ struct Ended {
     steps: u64,
 }
 
-// At most so many steps, with the arrays of the state lent.
+// The first number after so many steps. Before the first it is the one given: a truth may stand there as 3, which would be put together as 2.
+fn number(steps: u64, start: u64, h: Head) -> u64
+    requires { ⌜ Held h ⌝ }
+    ensures { λ r. ⌜ r ≡ numberAfter steps start h ⌝ }
+{
+    if steps == 0 {
+        return start;
+    }
+    programme::words::pack(h)
+}
+
+// At most so many steps, with the arrays of the state lent. The first number is taken apart once, and put together at the end.
 fn run_in(
     programme: &[u64],
     request: &[u8],
@@ -95,30 +100,30 @@ fn run_in(
     ensures { λ r. ⌜ runOf (now (programme .entry)) (bagsOf (now (request .entry))) budget (stateOf start (now (frames .entry)) (now (levels .entry)) (now (places .entry)))
         ≡ record { ok = r .ok; state = stateOf (r .head) (now (frames .exit)) (now (levels .exit)) (now (places .exit)); steps = r .steps } ⌝ }
 {
-    let mut head = start;
+    let mut h = programme::words::unpack(start);
     let mut steps: u64 = 0;
     while steps < budget {
-        if is_over(head) {
+        if h.over {
             return Ended {
                 ok: true,
-                head,
+                head: number(steps, start, h),
                 steps,
             };
         }
-        let went = programme::step_in(programme, request, head, frames, levels, places);
-        head = went.head;
+        let went = programme::step_in(programme, request, h, frames, levels, places);
         if !went.ok {
             return Ended {
                 ok: false,
-                head,
+                head: number(steps, start, h),
                 steps,
             };
         }
+        h = went.head;
         steps += 1;
     }
     Ended {
         ok: true,
-        head,
+        head: number(steps, start, h),
         steps,
     }
 }
