@@ -56,7 +56,8 @@ extern "C" {
  *   The book is judged first (3, 4, 2, then the first line with 5, then the first line with 6), then the request
  *   (4, 2, then the first line with 5), then the output (7). out keeps its bytes.
  *
- * For example, book A of examples/a with its request for 40 gives 0x102: Deny, one obligation; out is 00 12 00 00.
+ * For example, book A of examples/a with its request for 40 gives 0x102: Deny, one obligation; an out of 4
+ * bytes is then 00 12 00 00.
  * An empty book gives 0x1000003FF: refused, number 3, line 0, part 1.
  */
 uint64_t bachumoi_decide(const uint8_t *book, size_t book_len, const uint8_t *request, size_t request_len,
