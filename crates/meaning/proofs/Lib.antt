@@ -1,1 +1,2 @@
 pub mod Logic
+pub mod Keys

@@ -3,3 +3,4 @@ pub mod Policy
 pub mod Numbers
 pub mod Meaning
 pub mod Reading
+pub mod Keys

@@ -256,7 +256,7 @@ module _ (h : Head) (s : Held h) where
       (omega (arith, bit-small (h .over)))
 
   -- a first number whose fields fit comes back
-  pub unpack-pack : unpackOf (packOf h) ≡ h
+  unpack-pack : unpackOf (packOf h) ≡ h
   unfolding unpackOf
   unpack-pack =
       rw (
@@ -281,6 +281,9 @@ module _ (h : Head) (s : Held h) where
 -- what lies in the allowed range fits its bits
 pub held : (h : Head) → Ranged h → Held h
 held h r = record { at = r .at; depth = omega arith; nest = omega arith; permits = omega arith; denies = omega arith; cut = omega arith }
+
+pub ranged-back : (h : Head) → Ranged h → unpackOf (packOf h) ≡ h
+ranged-back h r = unpack-pack h (held h r)
 
 pub allowed-pack : (h : Head) → Ranged h → allowed (packOf h) ≡ true
 unfolding allowed

@@ -31,7 +31,7 @@ use Rattle.programme.specs.Machine.{roomF, roomL, heightAfter, permitsAf
 use Rattle.programme.specs.Layout.{unpackOf, allowed, fetch}
 use Rattle.programme.specs.Step.{headAfter, after, seen, mayStep, stepOf}
 use Rattle.programme.specs.declared.State.{State}
-use Rattle.programme.proofs.Coding.{ranged, held, unpack-pack, allowed-pack}
+use Rattle.programme.proofs.Coding.{ranged, ranged-back, allowed-pack}
 use Rattle.programme.specs.Moves.{Ranged, Placed}
 
 -- how far a match leads
@@ -252,7 +252,7 @@ module _ (p : List ℕ) (g : Bags) (s : State) (long : length p ≤ 8008) (ok : 
 
   pub head-after : unpackOf (stepOf p g s .head) ≡ headAfter before met (seen g s before met)
   unfolding stepOf after
-  head-after = unpack-pack (headAfter before met (seen g s before met)) (held (headAfter before met (seen g s before met)) (step-forward .2))
+  head-after = ranged-back (headAfter before met (seen g s before met)) (step-forward .2)
 
   pub further-on : (before .at < unpackOf (stepOf p g s .head) .at) × (unpackOf (stepOf p g s .head) .at ≤ length p)
   further-on = rw head-after (step-forward .0, step-forward .1)

@@ -7,7 +7,8 @@ use lib.ListN.{length, take}
 use Rattle.record.specs.declared.Refusal.{Refusal}
 use Rattle.text.specs.Table.{tab}
 use Rattle.text.specs.Text.{book, readOf, writeOf, byteAt, textAt, outputAfter}
-use Rattle.text.specs.RoundTrip.{Bytes, upper}
+use Rattle.record.specs.Bytes.{Bytes}
+use Rattle.text.specs.RoundTrip.{upper}
 use Rattle.text.specs.declared.Filled.{Filled}
 use Rattle.text.specs.declared.Filled.the-variants.{Places, Refused}
 use Rattle.text.proofs.Lined.{judge-lined, Lined}

@@ -26,7 +26,7 @@ use Rattle.programme.specs.declared.State.{State}
 use Rattle.programme.specs.Layout.{unpackOf, packOf, allowed}
 use Rattle.programme.specs.Moves.{Ranged}
 use Rattle.programme.specs.Step.{mayStep, stepOf, steppedOf, stateOf, seen, after, isOver, countBy}
-use Rattle.programme.proofs.Coding.{ranged, held, unpack-pack}
+use Rattle.programme.proofs.Coding.{ranged, ranged-back}
 use Rattle.run.specs.declared.kinds.Answer.{Answer}
 use Rattle.run.specs.declared.kinds.Answer.the-variants.{Running, Finished, Refused}
 use Rattle.run.specs.declared.kinds.Ran.{Ran}
@@ -59,11 +59,8 @@ number-made (suc k) start x h l e = e
 number-on : (k start : ℕ) (h : Head) → numberAfter (k + 1) start h ≡ packOf h
 number-on k start h = rw (add-one k) refl
 
-apart : (h : Head) → Ranged h → h ≡ unpackOf (packOf h)
-apart h r = sym (unpack-pack h (held h r))
-
 pub apart-on : (k start : ℕ) (h : Head) → Ranged h → h ≡ unpackOf (numberAfter (k + 1) start h)
-apart-on k start h r = rw (number-on k start h) (apart h r)
+apart-on k start h r = rw (number-on k start h) (sym (ranged-back h r))
 
 -- k steps have led to w, and a step from w is a step from t
 module _ (p : List ℕ) (g : Bags) (b k : ℕ) (s w t : State) (l : k < b) (i : Along p g b s k w) (o : Bool) (over : isOver w ≡ o)
@@ -93,7 +90,7 @@ module _ (p : List ℕ) (g : Bags) (n : ℕ) (fs ls ps : List ℕ) (h : Head) (r
   made = stateOf (packOf h) fs ls ps
 
   same : unpackOf n ≡ unpackOf (packOf h)
-  same = sym u ∙ apart h r
+  same = sym u ∙ sym (ranged-back h r)
 
   same-may : mayStep p given ≡ mayStep p made
   unfolding mayStep

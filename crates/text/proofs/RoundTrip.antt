@@ -15,7 +15,8 @@ use Rattle.record.proofs.Below.{all-of, all-at}
 use Rattle.text.specs.Hex.{letterOf, valueOf, isDigit}
 use Rattle.text.specs.Table.{tab}
 use Rattle.text.specs.Text.{textAt, byteAt, digitAt, goodLine, judgeFrom, readOf, writeOf}
-use Rattle.text.specs.RoundTrip.{Bytes, upper, WrittenIsRead, ReadIsWritten}
+use Rattle.record.specs.Bytes.{Bytes}
+use Rattle.text.specs.RoundTrip.{upper, WrittenIsRead, ReadIsWritten}
 use Rattle.text.specs.declared.Filled.the-variants.{Places}
 use Rattle.text.specs.declared.Judged.the-variants.{Lines}
 use Rattle.text.proofs.Laws.{value-small, getD-tab, length-tab}

@@ -1,17 +1,14 @@
 -- What is claimed of reading and writing together, for a book and a request alike. `proofs/RoundTrip.antt` proves both. Assumes nothing.
 use mathlib.Core.Path.{_≡_}
 use mathlib.Core.List.{List, map}
-use Prim.Native.Nat.{ℕ, _-_, _<_, _≤_}
-use lib.ListN.{length, getD}
+use Prim.Native.Nat.{ℕ, _-_, _≤_}
+use lib.ListN.{length}
 use Rattle.record.specs.Choose.{if, among}
+use Rattle.record.specs.Bytes.{Bytes}
 use Rattle.text.specs.Table.{tab}
 use Rattle.text.specs.Text.{readOf, writeOf, byteAt, textAt}
 use Rattle.text.specs.declared.Kind.{Kind}
 use Rattle.text.specs.declared.Filled.the-variants.{Places}
-
--- each element is a byte
-abbrev pub Bytes : List ℕ → Type 0
-Bytes s = (i : ℕ) → getD s i 0 < 256
 
 -- a small letter as a capital; every other byte as it is
 abbrev pub upper : ℕ → ℕ
