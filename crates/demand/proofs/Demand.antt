@@ -1,15 +1,15 @@
 -- The claims of specs/Demand.antt. Assumes nothing.
-use Prim.Native.Nat.{ℕ, _+_, _-_, _*_, _/_, _≤_, _<_}
+use Prim.Native.Nat.{ℕ, _+_, _-_, _*_, _/_, _≤_, _<_, min}
 use mathlib.Core.Path.{_≡_, refl, sym, ap, _∙_}
 use mathlib.Core.Bool.{Bool, true, false}
-use mathlib.Core.List.{List, [], _∷_, _++_}
-use lib.Dec.{ltb}
-use lib.ListN.{length, replicate, length-append, length-replicate}
+use mathlib.Core.List.{List, [], _∷_}
+use lib.Dec.{ltb, leb}
+use lib.ListN.{length, getD}
 use native.Mathlib.Nat.{zero-add, add-zero, add-assoc}
 use native.Mathlib.Omega.{arith}
-use borrow.Author.Tests.{lt-ltb, le-ltb, le-leb, ltb-true, ltb-false}
-use Rattle.record.specs.Choose.{if}
-use Rattle.record.specs.Bytes.{size, bigOf}
+use borrow.Author.Tests.{lt-ltb, le-leb, ltb-true, ltb-false}
+use Rattle.record.specs.Choose.{if, either}
+use Rattle.record.specs.Bytes.{size, Bytes, bigOf}
 use Rattle.record.proofs.Laws.{big-two}
 use Rattle.meaning.specs.Policy.{Tree}
 use Rattle.meaning.specs.Meaning.{Bags, decides, obliges}
@@ -24,26 +24,30 @@ use Rattle.judge.specs.declared.Judged.the-variants as book
 use Rattle.judge.specs.declared.JudgedRequest.the-variants as request
 use Rattle.judge.proofs.Exactly.{accepted-keeps}
 use Rattle.judge.proofs.Sound.{kept-nests}
+use Rattle.judge.proofs.Depth.{book-deep}
 use Rattle.programme.specs.declared.State.{State}
+use Rattle.programme.specs.Entry.{Entry, further, lawful}
 use Rattle.programme.specs.Core.{atOnce}
-use Rattle.programme.specs.Layout.{fetch}
+use Rattle.programme.specs.Layout.{allowed, fetch}
 use Rattle.programme.specs.Step.{isOver, freshOf}
 use Rattle.run.specs.Run.{runOf}
-use Rattle.run.specs.Runs.{andThen}
-use Rattle.run.specs.Tick.{admitted, Ticked, answered, ranOf, tickOf}
+use Rattle.run.specs.Tick.{admitted, Ticked, answered, refused, tickOf}
 use Rattle.run.specs.declared.kinds.Ran.{Ran}
-use Rattle.run.specs.declared.kinds.Answer.the-variants.{Running, Finished}
-use Rattle.run.proofs.Runs.{runs-add, runs-stay-allowed}
+use Rattle.run.proofs.Runs.{runs-stay-allowed}
+use Rattle.promises.specs.Steps.{afterSteps}
+use Rattle.promises.proofs.Steps.{runs-are, steps-add, left-after}
+use Rattle.promises.proofs.Ticks.{tick-with}
 use Rattle.translator.specs.Code.{programme, translated, inNumbers, obligations}
+use Rattle.translator.specs.Flat.{flatOf, isFurther, Codes}
+use Rattle.translator.specs.Nesting.{nestTree, deepTree}
 use Rattle.translator.specs.Translate.{programmeOf}
-use Rattle.demand.specs.Course.{Course}
-use Rattle.demand.specs.Demand.{Bytes, RunsRight, dealt, sum, answerAfter, EveryDealing}
 use Rattle.translator.proofs.Holding.{InTree, book-has}
 use Rattle.translator.proofs.Fetch.{Key, Short, numbers-length, codes, lawful-at}
 use Rattle.translator.proofs.Size.{short, recs}
 use Rattle.translator.proofs.Counted.{book-records, book-nest, obligations-le}
-use Rattle.judge.proofs.Depth.{book-deep}
-use Rattle.translator.proofs.Whole.{translated-right}
+use Rattle.translator.proofs.Whole.{Answers, translated-right}
+use Rattle.demand.specs.Course.{Course}
+use Rattle.demand.specs.Demand.{FewEntries, Turn, ticked, afterTurns, deals, dealtOut, running, finished, answerAt, RunsRight}
 use Rattle.demand.proofs.Course.{course, fresh-allowed}
 
 -- keys and numbers that are read from bytes fit
@@ -67,13 +71,13 @@ unfolding matchAt comparisonAt testAt
 tests-small b w i = (key-small b w i, key-small b w i)
 
 tree-small : (b : List ℕ) → Bytes b → InTree Key Short (bookOf b)
-tree-small b w = book-has b Key Short (tests-small b w) (number-small b w)
+tree-small b w = book-has b Key Short (tests-small b w) (λ i e. number-small b w i)
 
 -- what acceptance gives
 record Sizes (b : List ℕ) (n : ℕ) : Type 0 where
   few : recs (bookOf b) ≤ n
   most : n ≤ 1000
-  nest : (Rattle.translator.specs.Nesting.nestTree (bookOf b) ≤ 16) × (Rattle.translator.specs.Nesting.deepTree (bookOf b) ≤ 14)
+  nest : (nestTree (bookOf b) ≤ 16) × (deepTree (bookOf b) ≤ 14)
 
 sizes : (b : List ℕ) (n o : ℕ) → judgeOf b ≡ book.Accepted n o → Sizes b n
 sizes b n o e =
@@ -87,13 +91,19 @@ sizes b n o e =
       nest = book-nest b (rw l (book-deep b n w (z .some)));
     }
 
-some-entry : (x : Tree) (c k : ℕ) → 0 < length (programme x c k)
-unfolding programme
-some-entry x c k = omega arith
+-- the programme of an accepted book: its numbers spell its entries, each is in its layout where an operation starts, and the flat machine's run answers
+pub record Spelled (b p : List ℕ) (es : List Entry) (n : ℕ) : Type 0 where
+  pub same : length p ≡ length es
+  pub short : length p ≤ 4 * n
+  pub long : length p ≤ 8008
+  pub permitted : obligations Permits (bookOf b) ≤ 1000
+  pub reads : Codes (fetch p) es
+  pub laws : (i : ℕ) → i < length es → isFurther (getD es i further) ≡ false → lawful (length p) i (fetch p i) ≡ true
+  pub answers : (g : Bags) → Answers g (fetch p) es (flatOf freshOf) (decides g (bookOf b)) (obliges g (bookOf b))
 
-pub runs-right : RunsRight
+pub spelled : (b : List ℕ) (n o : ℕ) → Bytes b → judgeOf b ≡ book.Accepted n o → Spelled b (programmeOf b) (translated (bookOf b)) n
 unfolding programmeOf translated
-runs-right b n o w e =
+spelled b n o w e =
     let s = sizes b n o e in
     let x : Tree = bookOf b in
     let c : ℕ = obligations Permits x in
@@ -103,136 +113,112 @@ runs-right b n o w e =
     let few : length (programme x c k) ≤ 4 * recs x = short x in
     let long : length (programme x c k) ≤ 8008 = omega (arith, few, s .few, s .most) in
     let small = tree-small b w in
-    let numbers = numbers-length x c k small (omega (arith, room)) long in (
-      rw numbers (some-entry x c k),
-      rw numbers (omega (arith, few, s .few)),
-      λ g. course (inNumbers (programme x c k)) (programme x c k) g numbers (rw numbers long)
-          (codes x c k small (omega (arith, room)) long) (lawful-at x c k small (omega (arith, room)) long)
-          (decides g x) (obliges g x)
-          (translated-right x g (fetch (inNumbers (programme x c k))) (codes x c k small (omega (arith, room)) long) (s .nest .1) (s .nest .0) room),
-    )
+    let same = numbers-length x c k small (omega (arith, room)) long in
+    let reads = codes x c k small (omega (arith, room)) long in
+    record {
+      same = same;
+      short = rw same (omega (arith, few, s .few));
+      long = rw same long;
+      permitted = omega (arith, room);
+      reads = reads;
+      laws = lawful-at x c k small (omega (arith, room)) long;
+      answers = λ g. translated-right x g (fetch (inNumbers (programme x c k))) reads (s .nest .1) (s .nest .0) room;
+    }
 
--- ticks
-module _ (p q : List ℕ) (m : ℕ) (asked : judgeRequestOf q ≡ request.Accepted m) (some : 0 < length p) (long : length p ≤ 8008)
+pub few-entries : FewEntries
+few-entries b n o w e = spelled b n o w e .short
+
+-- ticks of a programme with such a run
+module _ (p q : List ℕ) (m : ℕ) (asked : judgeRequestOf q ≡ request.Accepted m) (long : length p ≤ 8008)
     (d : Decision) (os : List ℕ) (w : Course p (bagsOf q) d os) where
   abbrev g : Bags
   g = bagsOf q
 
-  -- every run from the fresh state is one that no 8 stops
-  run-ok : (n : ℕ) → runOf p g n freshOf .ok ≡ true
-  run-ok n = go (ltb n (w .steps)) refl
-    where
-      go : (x : Bool) → ltb n (w .steps) ≡ x → runOf p g n freshOf .ok ≡ true
-      go true e = w .early n (ltb-true n (w .steps) e) .ok
-      go false e = w .late n (ltb-false n (w .steps) e) .ok
+  abbrev k : ℕ
+  k = w .steps
 
   abbrev at : ℕ → State
-  at n = runOf p g n freshOf .state
+  at n = afterSteps p g n freshOf
 
-  joined : (a c : ℕ) → runOf p g (a + c) freshOf ≡ andThen p g true (runOf p g a freshOf) c
-  joined a c = runs-add p g a c freshOf ∙ ap (λ (x : Bool). andThen p g x (runOf p g a freshOf) c) (run-ok a)
-
-  next-ok : (a c : ℕ) → runOf p g c (at a) .ok ≡ true
-  next-ok a c = ap (λ (r : Ran). r .ok) (sym (joined a c)) ∙ run-ok (a + c)
-
-  next-state : (a c : ℕ) → runOf p g c (at a) .state ≡ at (a + c)
-  next-state a c = ap (λ (r : Ran). r .state) (sym (joined a c))
-
-  next-steps : (a c : ℕ) → runOf p g a freshOf .steps + runOf p g c (at a) .steps ≡ runOf p g (a + c) freshOf .steps
-  next-steps a c = ap (λ (r : Ran). r .steps) (sym (joined a c))
-
-  admits : (a : ℕ) → admitted (length p) (at a .head) ≡ true
+  layout : (a : ℕ) → a ≤ k → admitted (length p) (at a .head) ≡ true
   unfolding admitted
-  admits a = rw (lt-ltb 0 (length p) some, le-leb (length p) 8008 long) (runs-stay-allowed p g a freshOf long fresh-allowed)
+  layout a l =
+      let e : min a k ≡ a = omega (arith, l) in
+      let r : runOf p g a freshOf .state ≡ at a = ap (λ (r : Ran). r .state) (runs-are p g a freshOf k (w .left)) ∙ ap at e in
+      let some : 0 < length p = omega (arith, w .begun, w .few) in
+      rw (lt-ltb 0 (length p) some, le-leb (length p) 8008 long) (rw r at (runs-stay-allowed p g a freshOf long fresh-allowed))
+
+  either-true : (x : Bool) → either x true ≡ true
+  either-true true = refl
+  either-true false = refl
 
   -- a tick after a steps
-  tick-is : (a c : ℕ) (out : List ℕ) → 1000 ≤ length out
-      → tickOf p q (at a) c out ≡ answered (isOver (at (a + c))) (at (a + c)) (runOf p g c (at a) .steps) out
-  unfolding tickOf ranOf
-  tick-is a c out l = rw (asked, le-ltb (length out) 1000 l, admits a, next-ok a c, next-state a c) refl
+  tick-is : (a : ℕ) (t : Turn) → a ≤ k → 1000 ≤ length (t .out)
+      → ticked p q (at a) t ≡ answered (isOver (at (a + min (t .budget) (k - a)))) (at (a + min (t .budget) (k - a))) (min (t .budget) (k - a)) (t .out)
+  tick-is a t l room =
+      let e : a + (k - a) ≡ k = omega (arith, l) in
+      tick-with p q (at a) (t .budget) (t .out) (k - a) (left-after p g a k freshOf l (w .left))
+      (record { entries = m; request = asked; room = room; layout = layout a l })
+      ∙ rw (steps-add p g a (k - a) freshOf, e, w .answer .over, either-true (leb (t .budget) (k - a)), steps-add p g a (min (t .budget) (k - a)) freshOf) refl
 
-  -- the steps that a tick takes
-  early-steps : (a c : ℕ) → a + c < w .steps → runOf p g c (at a) .steps ≡ c
-  early-steps a c l =
-      let x = next-steps a c in
-      let y = w .early a (omega (arith, l)) .steps in
-      let z = w .early (a + c) l .steps in
-      omega (arith, x, y, z)
+  abbrev answer : ℕ → Turn → Ticked
+  answer a t = answerAt p g k a t d os
 
-  late-steps : (a c : ℕ) → w .steps ≤ a + c → runOf p g c (at a) .steps ≡ w .steps - a
-  late-steps a c l = go (ltb a (w .steps)) refl
+  -- a tick after a steps were dealt out
+  answers : (a : ℕ) (t : Turn) → 1000 ≤ length (t .out) → ticked p q (at (min a k)) t ≡ answer a t
+  unfolding answered
+  answers a t room = tick-is (min a k) t (omega arith) room ∙ go (ltb (a + t .budget) k) refl
     where
-      go : (x : Bool) → ltb a (w .steps) ≡ x → runOf p g c (at a) .steps ≡ w .steps - a
+      c : ℕ
+      c = min (t .budget) (k - min a k)
+
+      go : (x : Bool) → ltb (a + t .budget) k ≡ x → answered (isOver (at (min a k + c))) (at (min a k + c)) c (t .out)
+          ≡ if x (running (at (a + t .budget)) t) (finished (at k) t (k - a) d os)
       go true e =
-          let x = next-steps a c in
-          let y = w .early a (ltb-true a (w .steps) e) .steps in
-          let z = w .late (a + c) l .steps in
-          omega (arith, x, y, z)
+          let l = ltb-true (a + t .budget) k e in
+          let f : min a k + c ≡ a + t .budget = omega (arith, l) in
+          let h : c ≡ t .budget = omega (arith, l) in
+          rw (f, h, w .left .goes (a + t .budget) l .running) refl
       go false e =
-          let h = ltb-false a (w .steps) e in
-          let x = next-steps a c in
-          let y = w .late a h .steps in
-          let z = w .late (a + c) l .steps in
-          omega (arith, x, y, z, h)
+          let l = ltb-false (a + t .budget) k e in
+          let f : min a k + c ≡ k = omega (arith, l) in
+          let h : c ≡ k - a = omega (arith, l) in
+          rw (f, h, w .answer .over, w .answer .decision, w .answer .obligations, w .answer .count) refl
 
-  running : (a c : ℕ) (out : List ℕ) → a + c < w .steps
-      → answered (isOver (at (a + c))) (at (a + c)) (runOf p g c (at a) .steps) out ≡ record { tick = record { state = at (a + c); steps = c; answer = Running }; out = out }
-  unfolding answered
-  running a c out l = rw (w .early (a + c) l .running, early-steps a c l) refl
+  -- a turn without room is refused
+  stays : (a : ℕ) (t : Turn) → length (t .out) < 1000 → ticked p q (at a) t .tick .state ≡ at a
+  unfolding tickOf
+  stays a t l = rw (asked, lt-ltb (length (t .out)) 1000 l) refl
 
-  finished : (a c : ℕ) (out : List ℕ) → w .steps ≤ a + c
-      → answered (isOver (at (a + c))) (at (a + c)) (runOf p g c (at a) .steps) out
-      ≡ record { tick = record { state = at (a + c); steps = w .steps - a; answer = Finished d (length os) }; out = os ++ replicate (length out - length os) 0 }
-  unfolding answered
-  finished a c out l =
-      let r = w .late (a + c) l in
-      rw (r .over, late-steps a c l, r .decision, r .count, r .obligations) refl
-
-  pub tick-answers : (a c : ℕ) (out : List ℕ) → 1000 ≤ length out → tickOf p q (at a) c out ≡ answerAfter p g (w .steps) a c d os out
-  tick-answers a c out l = tick-is a c out l ∙ go (ltb (a + c) (w .steps)) refl
+  -- after any turns
+  turn-leads : (a : ℕ) (t : Turn) → ticked p q (at (min a k)) t .tick .state ≡ at (min (a + deals t) k)
+  turn-leads a t = go (ltb (length (t .out)) 1000) refl
     where
-      go : (x : Bool) → ltb (a + c) (w .steps) ≡ x → answered (isOver (at (a + c))) (at (a + c)) (runOf p g c (at a) .steps) out
-          ≡ if x (record { tick = record { state = at (a + c); steps = c; answer = Running }; out = out })
-          (record { tick = record { state = at (a + c); steps = w .steps - a; answer = Finished d (length os) }; out = os ++ replicate (length out - length os) 0 })
-      go true e = running a c out (ltb-true (a + c) (w .steps) e)
-      go false e = finished a c out (ltb-false (a + c) (w .steps) e)
+      led : (x : Bool) → ltb (a + t .budget) k ≡ x → if x (running (at (a + t .budget)) t) (finished (at k) t (k - a) d os) .tick .state ≡ at (min (a + t .budget) k)
+      led true e = let l = ltb-true (a + t .budget) k e in ap at (omega (arith, l))
+      led false e = let l = ltb-false (a + t .budget) k e in ap at (omega (arith, l))
 
-  -- after any ticks
-  state-after : (a c : ℕ) (out : List ℕ) → 1000 ≤ length out → tickOf p q (at a) c out .tick .state ≡ at (a + c)
-  state-after a c out l = ap (λ (t : Ticked). t .tick .state) (tick-answers a c out l) ∙ go (ltb (a + c) (w .steps))
-    where
-      go : (x : Bool)
-          → (if {A = Ticked} x (record { tick = record { state = at (a + c); steps = c; answer = Running }; out = out })
-          (record { tick = record { state = at (a + c); steps = w .steps - a; answer = Finished d (length os) }; out = os ++ replicate (length out - length os) 0 })) .tick .state
-          ≡ at (a + c)
-      go true = refl
-      go false = refl
+      go : (x : Bool) → ltb (length (t .out)) 1000 ≡ x → ticked p q (at (min a k)) t .tick .state ≡ at (min (a + if x 0 (t .budget)) k)
+      go true e = rw (add-zero a) (stays (min a k) t (ltb-true (length (t .out)) 1000 e))
+      go false e =
+          ap (λ (r : Ticked). r .tick .state) (answers a t (ltb-false (length (t .out)) 1000 e)) ∙ led (ltb (a + t .budget) k) refl
 
-  room-after : (a c : ℕ) (out : List ℕ) → 1000 ≤ length out → 1000 ≤ length (tickOf p q (at a) c out .out)
-  room-after a c out l = rw (tick-answers a c out l) (go (ltb (a + c) (w .steps)))
-    where
-      filled : length (os ++ replicate (length out - length os) 0) ≡ length os + (length out - length os)
-      filled = length-append os (replicate (length out - length os) 0) ∙ ap (λ (n : ℕ). length os + n) (length-replicate (length out - length os) 0)
+  turns-lead : (ts : List Turn) (a : ℕ) → afterTurns p q ts (at (min a k)) ≡ at (min (a + dealtOut ts) k)
+  unfolding afterTurns dealtOut
+  turns-lead [] a = rw (add-zero a) refl
+  turns-lead (t ∷ ts) a = rw (turn-leads a t) (turns-lead ts (a + deals t) ∙ ap (λ (n : ℕ). at (min n k)) (add-assoc a (deals t) (dealtOut ts)))
 
-      go : (x : Bool)
-          → 1000 ≤ length ((if {A = Ticked} x (record { tick = record { state = at (a + c); steps = c; answer = Running }; out = out })
-          (record { tick = record { state = at (a + c); steps = w .steps - a; answer = Finished d (length os) }; out = os ++ replicate (length out - length os) 0 })) .out)
-      go true = l
-      go false = omega (arith, filled, l)
+  pub gives : (ts : List Turn) (t : Turn) → 1000 ≤ length (t .out) → ticked p q (afterTurns p q ts freshOf) t ≡ answer (dealtOut ts) t
+  unfolding afterSteps
+  gives ts t room =
+      let z : min 0 k ≡ 0 = omega arith in
+      let e : afterTurns p q ts freshOf ≡ at (min (dealtOut ts) k) = rw (z, zero-add (dealtOut ts)) at (turns-lead ts 0) in
+      rw e (answers (dealtOut ts) t room)
 
-  pub dealt-is : (cs : List ℕ) (a : ℕ) (out : List ℕ) → 1000 ≤ length out → dealt p q out cs (at a) ≡ at (a + sum cs)
-  unfolding dealt sum
-  dealt-is [] a out l = rw (add-zero a) refl
-  dealt-is (c ∷ cs) a out l =
-      rw (state-after a c out l) (dealt-is cs (a + c) (tickOf p q (at a) c out .out) (room-after a c out l) ∙ ap (λ (n : ℕ). at n) (add-assoc a c (sum cs)))
-
-pub every-dealing : EveryDealing
-unfolding runOf
-every-dealing b q n o m bytes accepted asked w cs c before out l k =
-    let r = runs-right b n o bytes accepted in
-    let s = sizes b n o accepted in
-    let long : length (programmeOf b) ≤ 8008 = omega (arith, r .1, s .most) in
+pub runs-right : RunsRight
+runs-right b q n o m bytes accepted asked =
+    let s = spelled b n o bytes accepted in
     let d = decides (bagsOf q) (bookOf b) in
     let os = obliges (bagsOf q) (bookOf b) in
-    let e = dealt-is (programmeOf b) q m asked (r .0) long d os w cs 0 before l in
-    rw (e, zero-add (sum cs)) (tick-answers (programmeOf b) q m asked (r .0) long d os w (sum cs) c out k)
+    let w = course (programmeOf b) (translated (bookOf b)) (bagsOf q) (s .same) (s .long) (s .reads) (s .laws) d os (s .answers (bagsOf q)) in
+    record { steps = w .steps; begun = w .begun; few = w .few; gives = gives (programmeOf b) q m asked (s .long) d os w }

@@ -4,7 +4,8 @@ use Prim.Native.Nat.{ℕ, _+_, _-_, _*_, _≤_, _<_}
 use mathlib.Core.Path.{_≡_}
 use mathlib.Core.List.{List, [], _∷_, _++_}
 use lib.Dec.{ltb}
-use lib.ListN.{length, getD, replicate}
+use lib.ListN.{length, replicate}
+use Rattle.record.specs.Bytes.{Bytes}
 use Rattle.record.specs.Choose.{if}
 use Rattle.meaning.specs.Meaning.{Bags, decides, obliges}
 use Rattle.meaning.specs.Reading.{bookOf, bagsOf}
@@ -15,48 +16,63 @@ use Rattle.judge.specs.declared.Judged.the-variants as book
 use Rattle.judge.specs.declared.JudgedRequest.the-variants as request
 use Rattle.programme.specs.declared.State.{State}
 use Rattle.programme.specs.Step.{freshOf}
-use Rattle.run.specs.Run.{runOf}
 use Rattle.run.specs.Tick.{Ticked, tickOf}
 use Rattle.run.specs.declared.kinds.Answer.the-variants.{Running, Finished}
+use Rattle.promises.specs.Steps.{afterSteps}
 use Rattle.translator.specs.Translate.{programmeOf}
-use Rattle.demand.specs.Course.{Course}
 
--- each element is a byte
-abbrev pub Bytes : List ℕ → Type 0
-Bytes b = (i : ℕ) → getD b i 0 < 256
+-- it has at most 4n entries
+abbrev pub FewEntries : Type 0
+FewEntries = (b : List ℕ) (n o : ℕ) → Bytes b → judgeOf b ≡ book.Accepted n o → length (programmeOf b) ≤ 4 * n
 
--- it has 1 to 4n entries, and whatever the request, its run from the fresh state ends within them with the decision and the obligations of the meaning
+-- a turn: a budget, and an output to fill
+pub record Turn : Type 0 where
+  pub budget : ℕ
+  pub out : List ℕ
+
+abbrev pub ticked : List ℕ → List ℕ → State → Turn → Ticked
+ticked p q s t = tickOf p q s (t .budget) (t .out)
+
+-- the state after these ticks, one after another
+unfoldable pub afterTurns : List ℕ → List ℕ → List Turn → State → State
+afterTurns p q [] s = s
+afterTurns p q (t ∷ ts) s = afterTurns p q ts (ticked p q s t .tick .state)
+
+-- the steps that they deal out: a tick whose output has no room is refused, and deals out none
+abbrev pub deals : Turn → ℕ
+deals t = if (ltb (length (t .out)) 1000) 0 (t .budget)
+
+unfoldable pub dealtOut : List Turn → ℕ
+dealtOut [] = 0
+dealtOut (t ∷ ts) = deals t + dealtOut ts
+
+-- what a tick gives after `before` steps were dealt out, where the run takes k: running, with all its steps taken, and the output as it was; once k are dealt
+-- out, finished, with the steps that were left, the decision, and the obligations in the output
+abbrev pub running : State → Turn → Ticked
+running s t = record { tick = record { state = s; steps = t .budget; answer = Running }; out = t .out }
+
+abbrev pub finished : State → Turn → ℕ → Decision → List ℕ → Ticked
+finished s t steps d os = record {
+  tick = record { state = s; steps = steps; answer = Finished d (length os) };
+  out = os ++ replicate (length (t .out) - length os) 0;
+}
+
+abbrev pub answerAt : List ℕ → Bags → ℕ → ℕ → Turn → Decision → List ℕ → Ticked
+answerAt p g k before t d os =
+    if (ltb (before + t .budget) k)
+    (running (afterSteps p g (before + t .budget) freshOf) t)
+    (finished (afterSteps p g k freshOf) t (k - before) d os)
+
+-- there is a number of steps, at least one and at most the entries, by which every tick of every row of ticks answers
+pub record Runs (p q : List ℕ) (d : Decision) (os : List ℕ) : Type 0 where
+  pub steps : ℕ
+  pub begun : 0 < steps
+  pub few : steps ≤ length p
+  pub gives : (ts : List Turn) (t : Turn) → 1000 ≤ length (t .out)
+      → ticked p q (afterTurns p q ts freshOf) t ≡ answerAt p (bagsOf q) steps (dealtOut ts) t d os
+
+-- for every accepted book and every accepted request, with the decision and the obligations of the meaning
 abbrev pub RunsRight : Type 0
 RunsRight =
-    (b : List ℕ) (n o : ℕ) → Bytes b → judgeOf b ≡ book.Accepted n o
-    → (0 < length (programmeOf b)) × (length (programmeOf b) ≤ 4 * n)
-    × ((g : Bags) → Course (programmeOf b) g (decides g (bookOf b)) (obliges g (bookOf b)))
-
--- the state after ticks with these budgets, one after another, each with the same request and the places that the one before left
-unfoldable pub dealt : List ℕ → List ℕ → List ℕ → List ℕ → State → State
-dealt p q out [] s = s
-dealt p q out (c ∷ cs) s = dealt p q (tickOf p q s c out .out) cs (tickOf p q s c out .tick .state)
-
-unfoldable pub sum : List ℕ → ℕ
-sum [] = 0
-sum (c ∷ cs) = c + sum cs
-
--- what a tick answers that comes after `before` steps dealt out and deals out c more, where the run ends after k: running, with c steps taken; or finished, with
--- the steps that were left, the decision and the obligations
-abbrev pub answerAfter : List ℕ → Bags → ℕ → ℕ → ℕ → Decision → List ℕ → List ℕ → Ticked
-answerAfter p g k before c d os out =
-    if (ltb (before + c) k)
-    (record { tick = record { state = runOf p g (before + c) freshOf .state; steps = c; answer = Running }; out = out })
-    (record {
-      tick = record { state = runOf p g (before + c) freshOf .state; steps = k - before; answer = Finished d (length os) };
-      out = os ++ replicate (length out - length os) 0;
-    })
-
--- for every accepted book, every accepted request and every way of dealing out steps over ticks, zeros among them
-abbrev pub EveryDealing : Type 0
-EveryDealing =
     (b q : List ℕ) (n o m : ℕ) → Bytes b → judgeOf b ≡ book.Accepted n o → judgeRequestOf q ≡ request.Accepted m
-    → (w : Course (programmeOf b) (bagsOf q) (decides (bagsOf q) (bookOf b)) (obliges (bagsOf q) (bookOf b)))
-    → (cs : List ℕ) (c : ℕ) (before out : List ℕ) → 1000 ≤ length before → 1000 ≤ length out
-    → tickOf (programmeOf b) q (dealt (programmeOf b) q before cs freshOf) c out
-    ≡ answerAfter (programmeOf b) (bagsOf q) (w .steps) (sum cs) c (decides (bagsOf q) (bookOf b)) (obliges (bagsOf q) (bookOf b)) out
+    → Runs (programmeOf b) q (decides (bagsOf q) (bookOf b)) (obliges (bagsOf q) (bookOf b))

@@ -1,5 +1,4 @@
 pub mod Coding
-pub mod Local
 pub mod Forward
 pub mod Outcome
 pub mod Found

@@ -4,4 +4,3 @@ pub mod Machine
 pub mod Layout
 pub mod Step
 pub mod Moves
-pub mod Local

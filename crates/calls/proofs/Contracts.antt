@@ -1,0 +1,51 @@
+-- What the contract of each exported function says of a call is what the claims speak of. `Post` is what Rattle reads off the source's `ensures`: `a` are the
+-- arguments of a call, x its number, and s the lent slices after it. Assumes nothing.
+use Prim.Native.Nat.{_/_}
+use mathlib.Core.Path.{_≡_, refl}
+use lib.ListN.{take}
+use contract.Lifetimes.{Lfts}
+use borrow.Fn.Kinds.{Dens, resT, endedOf}
+use denote.Triple.Clauses.{AtExit}
+use denote.Ref.{now}
+use Rattle.demand.specs.Demand.{Turn}
+use Rattle.host.specs.Host.{hostNumber, hostOutcome, hostOut}
+use Rattle.host.proofs.bachumoi_decide.Kinds as decide-kinds
+use Rattle.host.proofs.bachumoi_decide.Reads as decide-reads
+use Rattle.rig.specs.Rig.{Call, call, freshCall}
+use Rattle.rig.proofs.bachumoi_translate.Kinds as translate-kinds
+use Rattle.rig.proofs.bachumoi_translate.Reads as translate-reads
+use Rattle.rig.proofs.bachumoi_fresh.Kinds as fresh-kinds
+use Rattle.rig.proofs.bachumoi_fresh.Reads as fresh-reads
+use Rattle.rig.proofs.bachumoi_tick.Kinds as tick-kinds
+use Rattle.rig.proofs.bachumoi_tick.Reads as tick-reads
+use Rattle.calls.specs.Loop.{programmeIn, ticks, next}
+
+-- bachumoi_decide(book, request, out)
+module _ (κs : Lfts 3) (a : Dens κs decide-kinds.ps) (x : resT decide-kinds.r κs .Denot) (s : AtExit (endedOf 3 decide-kinds.ps decide-kinds.r) κs) where
+  pub decide-says : decide-reads.Post κs a x s
+      → (x ≡ hostNumber (hostOutcome (now (a .0)) (now (a .1 .0)) (now (a .1 .1 .0))))
+      × (now (s .1 .1 .0) ≡ hostOut (now (a .0)) (now (a .1 .0)) (now (a .1 .1 .0)))
+  decide-says p = p
+
+-- bachumoi_translate(book, programme): its number counts the entries that a loop is to lend
+module _ (κs : Lfts 2) (a : Dens κs translate-kinds.ps) (x : resT translate-kinds.r κs .Denot) (s : AtExit (endedOf 2 translate-kinds.ps translate-kinds.r) κs) where
+  pub translate-says : translate-reads.Post κs a x s → take (x / 256) (now (s .1 .0)) ≡ programmeIn (now (a .0)) (now (a .1 .0))
+  translate-says p = rw (p .0, p .1) refl
+
+-- bachumoi_fresh(numbers, places)
+module _ (κs : Lfts 2) (a : Dens κs fresh-kinds.ps) (x : resT fresh-kinds.r κs .Denot) (s : AtExit (endedOf 2 fresh-kinds.ps fresh-kinds.r) κs) where
+  pub fresh-says : fresh-reads.Post κs a x s → call x (now (s .0)) (now (s .1 .0)) ≡ freshCall (now (a .0)) (now (a .1 .0))
+  fresh-says p = p
+
+-- bachumoi_tick(programme, request, numbers, places, budget, out)
+module _ (κs : Lfts 5) (a : Dens κs tick-kinds.ps) (x : resT tick-kinds.r κs .Denot) (s : AtExit (endedOf 5 tick-kinds.ps tick-kinds.r) κs) where
+  abbrev before : Call
+  before = call 0 (now (a .1 .1 .0)) (now (a .1 .1 .1 .0))
+
+  abbrev turn : Turn
+  turn = record { budget = a .1 .1 .1 .1 .0; out = now (a .1 .1 .1 .1 .1 .0) }
+
+  pub tick-says : tick-reads.Post κs a x s
+      → (call x (now (s .1 .1 .0)) (now (s .1 .1 .1 .0)) ≡ next (now (a .0)) (now (a .1 .0)) before turn)
+      × (now (s .1 .1 .1 .1 .1 .0) ≡ ticks (now (a .0)) (now (a .1 .0)) before turn .out)
+  tick-says p = p
