@@ -2,10 +2,11 @@
 -- Assumes nothing.
 use mathlib.Core.Path.{_≡_, refl}
 use mathlib.Core.List.{List, [], _∷_}
-use Prim.Native.Nat.{ℕ, zero, suc, _/_, _%_}
+use Prim.Native.Nat.{ℕ}
 use Rattle.record.specs.Bytes.{bigOf, spanOf}
 use Rattle.record.specs.Forest.{spanIn, growF, forest}
 use Rattle.record.specs.Below.{allBelow}
+use Rattle.record.proofs.BookA.{bytes, lines, bookA, is40}
 use Rattle.value.specs.Value.{signed64, finiteOf, valueOf, functionOf}
 use Rattle.fields.specs.First.{countBelow, lastBelow, firstFrom}
 use Rattle.fields.specs.Fields.{kindOf, kindAt, typeOf, typeAt, finite, zeros, plainOk, sectionOk, comparesOk, obligationOk, fieldOk, obligationsOf}
@@ -22,25 +23,6 @@ use Rattle.judge.specs.Request.{judgeEntries, judgeRequestOf}
 use Rattle.decider.specs.Outcome.{dutiesOf, outcomeOf, outOf}
 use Rattle.decider.specs.declared.Outcome.{Outcome}
 use Rattle.decider.specs.declared.Outcome.the-variants.{Decided}
-
--- the last n bytes of a number, before what follows; lines of 16 bytes
-bytes : ℕ → ℕ → List ℕ → List ℕ
-bytes zero x rest = rest
-bytes (suc n) x rest = bytes n (x / 256) (x % 256 ∷ rest)
-
-lines : List ℕ → List ℕ
-lines [] = []
-lines (x ∷ xs) = bytes 16 x (lines xs)
-
-bookA : List ℕ
-bookA =
-    0x02010006000000000000000000000000
-    ∷ 0x03010001000000000000000000000000
-    ∷ 0x03020002000000000000000000000000
-    ∷ 0x070C0001040100070000000000000032
-    ∷ 0x08010001000000110000000000000000
-    ∷ 0x08020001000000120000000000000000
-    ∷ []
 
 -- a set over A: deny-overrides, permit-overrides; an only-one set over a policy without rules, then A
 denySet : List ℕ
@@ -76,10 +58,7 @@ oneConjunction =
     ∷ 0x03010001000000000000000000000000
     ∷ []
 
--- integers in environment attribute 7
-is40 : ℕ
-is40 = 0x04010007000000000000000000000028
-
+-- other integers in environment attribute 7
 is50 : ℕ
 is50 = 0x04010007000000000000000000000032
 

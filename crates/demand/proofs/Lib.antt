@@ -1,3 +1,4 @@
 pub mod Course
 pub mod Demand
 pub mod Records
+pub mod Worked

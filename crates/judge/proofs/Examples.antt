@@ -6,6 +6,7 @@ use lib.ListN.{set}
 use Rattle.record.specs.Bytes.{spanOf}
 use Rattle.record.specs.Refusals.{book, request, noRecord, cutShort, badField, badPlace}
 use Rattle.record.specs.Below.{allBelow}
+use Rattle.record.proofs.BookA.{bytes, lines, bookA, is40}
 use Rattle.fields.specs.First.{countBelow, lastBelow, firstFrom}
 use Rattle.fields.specs.Fields.{kindOf, kindAt, typeOf, typeAt, finite, zeros, plainOk, sectionOk, comparesOk, obligationOk, fieldOk, obligationsOf}
 use Rattle.fields.specs.Entries.{entryOk}
@@ -17,15 +18,9 @@ use Rattle.judge.specs.declared.Judged.the-variants.{Accepted, Refused}
 use Rattle.judge.specs.declared.JudgedRequest.{JudgedRequest}
 use Rattle.judge.specs.declared.JudgedRequest.the-variants as of-request
 
--- worked book A of document 01
-bookA : List ℕ
-bookA =
-    2 ∷ 1 ∷ 0 ∷ 6 ∷ 0 ∷ 0 ∷ 0 ∷ 0 ∷ 0 ∷ 0 ∷ 0 ∷ 0 ∷ 0 ∷ 0 ∷ 0 ∷ 0 ∷
-    3 ∷ 1 ∷ 0 ∷ 1 ∷ 0 ∷ 0 ∷ 0 ∷ 0 ∷ 0 ∷ 0 ∷ 0 ∷ 0 ∷ 0 ∷ 0 ∷ 0 ∷ 0 ∷
-    3 ∷ 2 ∷ 0 ∷ 2 ∷ 0 ∷ 0 ∷ 0 ∷ 0 ∷ 0 ∷ 0 ∷ 0 ∷ 0 ∷ 0 ∷ 0 ∷ 0 ∷ 0 ∷
-    7 ∷ 12 ∷ 0 ∷ 1 ∷ 4 ∷ 1 ∷ 0 ∷ 7 ∷ 0 ∷ 0 ∷ 0 ∷ 0 ∷ 0 ∷ 0 ∷ 0 ∷ 50 ∷
-    8 ∷ 1 ∷ 0 ∷ 1 ∷ 0 ∷ 0 ∷ 0 ∷ 17 ∷ 0 ∷ 0 ∷ 0 ∷ 0 ∷ 0 ∷ 0 ∷ 0 ∷ 0 ∷
-    8 ∷ 2 ∷ 0 ∷ 1 ∷ 0 ∷ 0 ∷ 0 ∷ 18 ∷ 0 ∷ 0 ∷ 0 ∷ 0 ∷ 0 ∷ 0 ∷ 0 ∷ 0 ∷ []
+-- worked book A of document 01, as bytes
+a : List ℕ
+a = lines bookA
 
 -- n nested sets
 nested : ℕ → List ℕ
@@ -36,14 +31,14 @@ nested (suc n) = 1 ∷ 1 ∷ 0 ∷ suc n ∷ 0 ∷ 0 ∷ 0 ∷ 0 ∷ 0 ∷ 0 ∷
 -- field rule on a later line; 16 and 17 nested sets
 judged : List Judged
 judged =
-    judgeOf bookA
+    judgeOf a
     ∷ judgeOf []
-    ∷ judgeOf (0 ∷ bookA)
-    ∷ judgeOf (set bookA 53 2)
-    ∷ judgeOf (set bookA 85 1)
-    ∷ judgeOf (set bookA 19 6)
-    ∷ judgeOf (set bookA 3 5)
-    ∷ judgeOf (set (set bookA 3 5) 83 2)
+    ∷ judgeOf (0 ∷ a)
+    ∷ judgeOf (set a 53 2)
+    ∷ judgeOf (set a 85 1)
+    ∷ judgeOf (set a 19 6)
+    ∷ judgeOf (set a 3 5)
+    ∷ judgeOf (set (set a 3 5) 83 2)
     ∷ judgeOf (nested 16)
     ∷ judgeOf (nested 17) ∷ []
 
@@ -58,12 +53,12 @@ computed : judged
     ∷ Refused (badField book 6)
     ∷ Accepted 16 0
     ∷ Refused (badPlace 17) ∷ []
-unfolding bookA nested judged judgeOf judgeRecords spanOf allBelow countBelow lastBelow firstFrom kindOf kindAt typeOf typeAt finite zeros plainOk sectionOk comparesOk obligationOk fieldOk obligationsOf endOf parentOf elderOf depthOf holdsConditions singleOf rankAt elderRank standsOk childRule childBroken topOk brokenAt placeOk
+unfolding a bytes lines bookA nested judged judgeOf judgeRecords spanOf allBelow countBelow lastBelow firstFrom kindOf kindAt typeOf typeAt finite zeros plainOk sectionOk comparesOk obligationOk fieldOk obligationsOf endOf parentOf elderOf depthOf holdsConditions singleOf rankAt elderRank standsOk childRule childBroken topOk brokenAt placeOk
 computed = refl
 
 -- the request of document 01's printed example
 forty : List ℕ
-forty = 4 ∷ 1 ∷ 0 ∷ 7 ∷ 0 ∷ 0 ∷ 0 ∷ 0 ∷ 0 ∷ 0 ∷ 0 ∷ 0 ∷ 0 ∷ 0 ∷ 0 ∷ 40 ∷ []
+forty = lines (is40 ∷ [])
 
 -- the request; nothing; one byte too many; must-be-present in an entry; an infinite double
 judged-requests : List JudgedRequest
@@ -80,5 +75,5 @@ computed-requests : judged-requests
     ∷ of-request.Refused (cutShort request)
     ∷ of-request.Refused (badField request 1)
     ∷ of-request.Refused (badField request 1) ∷ []
-unfolding forty judged-requests judgeRequestOf judgeEntries allBelow firstFrom typeOf finite zeros entryOk
+unfolding bytes lines is40 forty judged-requests judgeRequestOf judgeEntries allBelow firstFrom typeOf finite zeros entryOk
 computed-requests = refl

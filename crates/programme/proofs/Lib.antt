@@ -4,3 +4,4 @@ pub mod Outcome
 pub mod Found
 pub mod Carried
 pub mod Stepping
+pub mod Unique

@@ -4,6 +4,7 @@ use mathlib.Core.List.{List, [], _∷_, _++_}
 use Prim.Native.Nat.{ℕ}
 use Rattle.record.specs.Refusals.{badLine, noRoom}
 use Rattle.record.specs.Below.{allBelow}
+use Rattle.record.proofs.BookA.{bytes, lines, bookA}
 use Rattle.text.specs.Hex.{digitOf, isDigit, valueOf, letterOf}
 use Rattle.text.specs.Table.{tab}
 use Rattle.text.specs.Text.{book, goodLine, judgeFrom, readOf, readJudged, byteAt, textAt, writeOf}
@@ -30,26 +31,8 @@ line-6 = 48 ∷ 56 ∷ 48 ∷ 50 ∷ 48 ∷ 48 ∷ 48 ∷ 49 ∷ 48 ∷ 48 ∷ 4
 text : List ℕ
 text = line-1 ++ line-2 ++ line-3 ++ line-4 ++ line-5 ++ line-6
 
-record-1 : List ℕ
-record-1 = 2 ∷ 1 ∷ 0 ∷ 6 ∷ 0 ∷ 0 ∷ 0 ∷ 0 ∷ 0 ∷ 0 ∷ 0 ∷ 0 ∷ 0 ∷ 0 ∷ 0 ∷ 0 ∷ []
-
-record-2 : List ℕ
-record-2 = 3 ∷ 1 ∷ 0 ∷ 1 ∷ 0 ∷ 0 ∷ 0 ∷ 0 ∷ 0 ∷ 0 ∷ 0 ∷ 0 ∷ 0 ∷ 0 ∷ 0 ∷ 0 ∷ []
-
-record-3 : List ℕ
-record-3 = 3 ∷ 2 ∷ 0 ∷ 2 ∷ 0 ∷ 0 ∷ 0 ∷ 0 ∷ 0 ∷ 0 ∷ 0 ∷ 0 ∷ 0 ∷ 0 ∷ 0 ∷ 0 ∷ []
-
-record-4 : List ℕ
-record-4 = 7 ∷ 12 ∷ 0 ∷ 1 ∷ 4 ∷ 1 ∷ 0 ∷ 7 ∷ 0 ∷ 0 ∷ 0 ∷ 0 ∷ 0 ∷ 0 ∷ 0 ∷ 50 ∷ []
-
-record-5 : List ℕ
-record-5 = 8 ∷ 1 ∷ 0 ∷ 1 ∷ 0 ∷ 0 ∷ 0 ∷ 17 ∷ 0 ∷ 0 ∷ 0 ∷ 0 ∷ 0 ∷ 0 ∷ 0 ∷ 0 ∷ []
-
-record-6 : List ℕ
-record-6 = 8 ∷ 2 ∷ 0 ∷ 1 ∷ 0 ∷ 0 ∷ 0 ∷ 18 ∷ 0 ∷ 0 ∷ 0 ∷ 0 ∷ 0 ∷ 0 ∷ 0 ∷ 0 ∷ []
-
 records : List ℕ
-records = record-1 ++ record-2 ++ record-3 ++ record-4 ++ record-5 ++ record-6
+records = lines bookA
 
 -- line 4 with a G in it
 wrong : List ℕ
@@ -60,7 +43,7 @@ unfolding text line-1 line-2 line-3 line-4 line-5 line-6 readOf readJudged judge
 read-a = refl
 
 bytes-a : tab (byteAt text) 96 ≡ records
-unfolding text line-1 line-2 line-3 line-4 line-5 line-6 records record-1 record-2 record-3 record-4 record-5 record-6 tab byteAt valueOf digitOf
+unfolding text line-1 line-2 line-3 line-4 line-5 line-6 records bytes lines bookA tab byteAt valueOf digitOf
 bytes-a = refl
 
 short-a : readOf book text 95 ≡ Refused noRoom
@@ -72,9 +55,9 @@ unfolding wrong line-1 line-2 line-3 line-4 line-5 line-6 readOf readJudged judg
 wrong-a = refl
 
 write-a : writeOf book records 198 ≡ Places 198
-unfolding records record-1 record-2 record-3 record-4 record-5 record-6 writeOf
+unfolding records bytes lines bookA writeOf
 write-a = refl
 
 text-a : tab (textAt records) 198 ≡ text
-unfolding text line-1 line-2 line-3 line-4 line-5 line-6 records record-1 record-2 record-3 record-4 record-5 record-6 tab textAt letterOf
+unfolding text line-1 line-2 line-3 line-4 line-5 line-6 records bytes lines bookA tab textAt letterOf
 text-a = refl

@@ -1,0 +1,26 @@
+-- Worked book A of document 01 and the request of its printed example, line by line, for what is computed of them. Assumes nothing.
+use mathlib.Core.List.{List, [], _∷_}
+use Prim.Native.Nat.{ℕ, zero, suc, _/_, _%_}
+
+-- the last n bytes of a number, before what follows; the bytes of lines, each given as one number
+unfoldable pub bytes : ℕ → ℕ → List ℕ → List ℕ
+bytes zero x rest = rest
+bytes (suc n) x rest = bytes n (x / 256) (x % 256 ∷ rest)
+
+unfoldable pub lines : List ℕ → List ℕ
+lines [] = []
+lines (x ∷ xs) = bytes 16 x (lines xs)
+
+unfoldable pub bookA : List ℕ
+bookA =
+    0x02010006000000000000000000000000
+    ∷ 0x03010001000000000000000000000000
+    ∷ 0x03020002000000000000000000000000
+    ∷ 0x070C0001040100070000000000000032
+    ∷ 0x08010001000000110000000000000000
+    ∷ 0x08020001000000120000000000000000
+    ∷ []
+
+-- an integer in environment attribute 7
+unfoldable pub is40 : ℕ
+is40 = 0x04010007000000000000000000000028
