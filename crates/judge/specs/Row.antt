@@ -1,9 +1,11 @@
 -- A row of records that keep every rule, as one pass over a sound book finds it: `src/grammar.rt`. Assumes nothing.
 use Prim.Native.Nat.{ℕ, _+_, _≤_, _<_}
 use mathlib.Core.Path.{_≡_}
-use mathlib.Core.Bool.{true}
+use mathlib.Core.Bool.{Bool, true}
 use mathlib.Core.List.{List}
 use mathlib.Core.Logic.{_⊎_}
+use lib.Dec.{eqb}
+use Rattle.record.specs.Choose.{both}
 use Rattle.record.specs.Bytes.{byteOf}
 use Rattle.fields.specs.Fields.{kindAt, fieldOk, obligationsOf}
 use Rattle.fields.specs.declared.Kind.{Kind}
@@ -15,6 +17,10 @@ use Rattle.judge.specs.Walk.{Walk}
 pub record Fit (b : List ℕ) (i : ℕ) (k : Kind) : Type 0 where
   pub kind : kindAt b i ≡ k
   pub fields : fieldOk b i ≡ true
+
+-- the same as a test
+unfoldable pub isFit : List ℕ → ℕ → Kind → Bool
+isFit b i k = both (eqb (numberOf (kindAt b i)) (numberOf k)) (fieldOk b i)
 
 -- the walk has come to place i, and the child before has at most the rank `most`
 pub record Went (b : List ℕ) (p i e d pn gc pc most : ℕ) : Type 0 where

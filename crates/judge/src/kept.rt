@@ -1,13 +1,12 @@
 // Whether a record is of a kind, and keeps its field rules.
 ghost use mathlib.Core.Path.{_≡_};
-ghost use mathlib.Core.Bool.{true};
 ghost use Prim.Native.Nat.{_+_, _*_, _≤_};
 ghost use lib.Dec.{eqb};
 ghost use lib.ListN.{length};
 ghost use Rattle.record.specs.Choose.{both, among};
 ghost use Rattle.record.specs.Bytes.{size, byteOf};
 ghost use Rattle.fields.specs.declared.Kind.the-variants.{PolicySet, Policy, Rule, Section, Conjunction, Match, Logic, Not, Comparison, Obligation};
-ghost use Rattle.judge.specs.Row.{Fit};
+ghost use Rattle.judge.specs.Row.{isFit};
 
 // Whether record i has this kind, and a choice from low to high.
 fn is(book: &[u8], i: usize, kind: usize, low: usize, high: usize) -> bool
@@ -26,7 +25,7 @@ fn is(book: &[u8], i: usize, kind: usize, low: usize, high: usize) -> bool
 
 pub fn is_set(book: &[u8], i: usize) -> bool
     requires { ⌜ (i + 1) * size ≤ length (now book) ⌝ }
-    ensures { λ r. ⌜ (r ≡ true → Fit (now (book .entry)) i PolicySet) ⌝ }
+    ensures { λ r. ⌜ r ≡ isFit (now (book .entry)) i PolicySet ⌝ }
 {
     if !is(book, i, 1, 1, 4) {
         return false;
@@ -36,7 +35,7 @@ pub fn is_set(book: &[u8], i: usize) -> bool
 
 pub fn is_policy(book: &[u8], i: usize) -> bool
     requires { ⌜ (i + 1) * size ≤ length (now book) ⌝ }
-    ensures { λ r. ⌜ (r ≡ true → Fit (now (book .entry)) i Policy) ⌝ }
+    ensures { λ r. ⌜ r ≡ isFit (now (book .entry)) i Policy ⌝ }
 {
     if !is(book, i, 2, 1, 3) {
         return false;
@@ -46,7 +45,7 @@ pub fn is_policy(book: &[u8], i: usize) -> bool
 
 pub fn is_rule(book: &[u8], i: usize) -> bool
     requires { ⌜ (i + 1) * size ≤ length (now book) ⌝ }
-    ensures { λ r. ⌜ (r ≡ true → Fit (now (book .entry)) i Rule) ⌝ }
+    ensures { λ r. ⌜ r ≡ isFit (now (book .entry)) i Rule ⌝ }
 {
     if !is(book, i, 3, 1, 2) {
         return false;
@@ -56,7 +55,7 @@ pub fn is_rule(book: &[u8], i: usize) -> bool
 
 pub fn is_section(book: &[u8], i: usize) -> bool
     requires { ⌜ (i + 1) * size ≤ length (now book) ⌝ }
-    ensures { λ r. ⌜ (r ≡ true → Fit (now (book .entry)) i Section) ⌝ }
+    ensures { λ r. ⌜ r ≡ isFit (now (book .entry)) i Section ⌝ }
 {
     if !is(book, i, 4, 0, 0) {
         return false;
@@ -66,7 +65,7 @@ pub fn is_section(book: &[u8], i: usize) -> bool
 
 pub fn is_conjunction(book: &[u8], i: usize) -> bool
     requires { ⌜ (i + 1) * size ≤ length (now book) ⌝ }
-    ensures { λ r. ⌜ (r ≡ true → Fit (now (book .entry)) i Conjunction) ⌝ }
+    ensures { λ r. ⌜ r ≡ isFit (now (book .entry)) i Conjunction ⌝ }
 {
     if !is(book, i, 5, 0, 0) {
         return false;
@@ -76,7 +75,7 @@ pub fn is_conjunction(book: &[u8], i: usize) -> bool
 
 pub fn is_match(book: &[u8], i: usize) -> bool
     requires { ⌜ (i + 1) * size ≤ length (now book) ⌝ }
-    ensures { λ r. ⌜ (r ≡ true → Fit (now (book .entry)) i Match) ⌝ }
+    ensures { λ r. ⌜ r ≡ isFit (now (book .entry)) i Match ⌝ }
 {
     if !is(book, i, 6, 1, 5) {
         return false;
@@ -86,7 +85,7 @@ pub fn is_match(book: &[u8], i: usize) -> bool
 
 pub fn is_logic(book: &[u8], i: usize) -> bool
     requires { ⌜ (i + 1) * size ≤ length (now book) ⌝ }
-    ensures { λ r. ⌜ (r ≡ true → Fit (now (book .entry)) i Logic) ⌝ }
+    ensures { λ r. ⌜ r ≡ isFit (now (book .entry)) i Logic ⌝ }
 {
     if !is(book, i, 7, 1, 2) {
         return false;
@@ -96,7 +95,7 @@ pub fn is_logic(book: &[u8], i: usize) -> bool
 
 pub fn is_not(book: &[u8], i: usize) -> bool
     requires { ⌜ (i + 1) * size ≤ length (now book) ⌝ }
-    ensures { λ r. ⌜ (r ≡ true → Fit (now (book .entry)) i Not) ⌝ }
+    ensures { λ r. ⌜ r ≡ isFit (now (book .entry)) i Not ⌝ }
 {
     if !is(book, i, 7, 3, 3) {
         return false;
@@ -106,7 +105,7 @@ pub fn is_not(book: &[u8], i: usize) -> bool
 
 pub fn is_comparison(book: &[u8], i: usize) -> bool
     requires { ⌜ (i + 1) * size ≤ length (now book) ⌝ }
-    ensures { λ r. ⌜ (r ≡ true → Fit (now (book .entry)) i Comparison) ⌝ }
+    ensures { λ r. ⌜ r ≡ isFit (now (book .entry)) i Comparison ⌝ }
 {
     if !is(book, i, 7, 11, 15) {
         return false;
@@ -116,7 +115,7 @@ pub fn is_comparison(book: &[u8], i: usize) -> bool
 
 pub fn is_obligation(book: &[u8], i: usize) -> bool
     requires { ⌜ (i + 1) * size ≤ length (now book) ⌝ }
-    ensures { λ r. ⌜ (r ≡ true → Fit (now (book .entry)) i Obligation) ⌝ }
+    ensures { λ r. ⌜ r ≡ isFit (now (book .entry)) i Obligation ⌝ }
 {
     if !is(book, i, 8, 1, 2) {
         return false;

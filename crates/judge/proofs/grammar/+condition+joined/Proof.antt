@@ -1,7 +1,7 @@
 use borrow.Author.Tests.{not-false}
 use mathlib.Core.Path.{refl}
 use Rattle.judge.proofs.Parts.{is-comparison, is-not, is-logic, not-span, one-of-many}
-use Rattle.judge.proofs.Fits.{fit-span}
+use Rattle.judge.proofs.Fits.{fits, fit-span}
 use Rattle.judge.proofs.Rows.{row-none, row-then}
 use Rattle.judge.specs.Row.{Row}
 use native.Mathlib.Omega.{arith}
@@ -56,16 +56,16 @@ abbrev joined-μ-loop : joined-lts.MeasureT-loop
 joined-μ-loop book i end depth next at₀ at = next - at
 
 condition-returns-2 : (t : ℕ) → condition-lts.Need-returns-2 (condition-calls t) (condition-at t) condition.Post
-condition-returns-2 t c z = is-comparison _ (c .before .is-comparison .ensures (c .if2 .taken)) (omega arith) (omega arith)
+condition-returns-2 t c z = is-comparison _ (fits (c .before .is-comparison .ensures) (c .if2 .taken)) (omega arith) (omega arith)
 
 joined-condition-requires : (t : ℕ) → joined-lts.Need-condition-requires (joined-calls t) (joined-at t) joined.Post joined-Inv-loop joined-μ-loop
-joined-condition-requires t c κs = (search needs, (omega (arith, not-span _ _ (c .before .is-not .ensures (c .if2 .taken))), search needs, search needs))
+joined-condition-requires t c κs = (search needs, (omega (arith, not-span _ _ (fits (c .before .is-not .ensures) (c .if2 .taken))), search needs, search needs))
 
 joined-returns-3 : (t : ℕ) → joined-lts.Need-returns-3 (joined-calls t) (joined-at t) joined.Post joined-Inv-loop joined-μ-loop
-joined-returns-3 t c z = is-not _ (omega arith) (omega arith) (omega arith) (c .before .before .before .is-not .ensures (c .before .before .if2 .taken)) (c .if3 .left) (c .before .condition .ensures (omega arith))
+joined-returns-3 t c z = is-not _ (omega arith) (omega arith) (omega arith) (fits (c .before .before .before .is-not .ensures) (c .before .before .if2 .taken)) (c .if3 .left) (c .before .condition .ensures (omega arith))
 
 joined-loop-holds : (t : ℕ) → joined-lts.Need-loop-holds (joined-calls t) (joined-at t) joined.Post joined-Inv-loop joined-μ-loop
-joined-loop-holds t c = (omega arith, omega (arith, fit-span _ _ (c .before .is-logic .ensures (not-false _ (c .if4 .left)))), λ gc pc. row-none _ refl (omega arith))
+joined-loop-holds t c = (omega arith, omega (arith, fit-span _ _ (fits (c .before .is-logic .ensures) (not-false _ (c .if4 .left)))), λ gc pc. row-none _ refl (omega arith))
 
 joined-loop-less : (t : ℕ) → joined-lts.Need-loop-less (joined-calls t) (joined-at t) joined.Post joined-Inv-loop joined-μ-loop
 joined-loop-less t c = omega (arith, c .before .condition2 .ensures (omega arith) .0)
@@ -74,7 +74,7 @@ joined-loop-again : (t : ℕ) → joined-lts.Need-loop-again (joined-calls t) (j
 joined-loop-again t c = let y = c .before .condition2 .ensures (omega arith) in (omega arith, omega arith, λ gc pc. row-then _ (c .before .before .before .loop .inv .2 gc pc) (one-of-many _ y gc pc))
 
 joined-returns-6 : (t : ℕ) → joined-lts.Need-returns-6 (joined-calls t) (joined-at t) joined.Post joined-Inv-loop joined-μ-loop
-joined-returns-6 t c z = is-logic _ (omega arith) (omega arith) (omega arith) (c .before .before .before .is-logic .ensures (not-false _ (c .before .before .if4 .left))) (omega arith) (c .before .loop .inv .2)
+joined-returns-6 t c z = is-logic _ (omega arith) (omega arith) (omega arith) (fits (c .before .before .before .is-logic .ensures) (not-false _ (c .before .before .if4 .left))) (omega arith) (c .before .loop .inv .2)
 
 pub +condition+joined-spec : {M : Type 1} → statement M
 +condition+joined-spec = close μ-condition μ-joined (λ t. condition-lts.spec (condition-calls t)

@@ -1,6 +1,6 @@
 use Rattle.judge.proofs.Rows.{row-none, row-then, row-lower, row-due}
 use Rattle.judge.proofs.Parties.{party-is, party-next}
-use Rattle.judge.proofs.Fits.{fit-span}
+use Rattle.judge.proofs.Fits.{fits, fit-span}
 use Rattle.judge.specs.Row.{Row}
 use Rattle.fields.specs.declared.Kind.the-variants.{PolicySet, Policy}
 use borrow.Author.Tests.{not-false}
@@ -60,10 +60,10 @@ party-add-policy-parts : (t : ℕ) → party-lts.Need-add-policy-parts (party-ca
 party-add-policy-parts t c = search needs
 
 party-policy-parts-requires : (t : ℕ) → party-lts.Need-policy-parts-requires (party-calls t) (party-at t) party.Post party-Inv-loop party-μ-loop
-party-policy-parts-requires t c κs = let s = fit-span _ _ (c .before .is-policy .ensures (c .if2 .taken)) in (omega (arith, s, c .before .before .before .span .ensures .0), omega arith, omega arith)
+party-policy-parts-requires t c κs = let s = fit-span _ _ (fits (c .before .is-policy .ensures) (c .if2 .taken)) in (omega (arith, s, c .before .before .before .span .ensures .0), omega arith, omega arith)
 
 party-returns-2 : (t : ℕ) → party-lts.Need-returns-2 (party-calls t) (party-at t) party.Post party-Inv-loop party-μ-loop
-party-returns-2 t c = (omega arith, λ z. party-is _ Policy (c .before .before .is-policy .ensures (c .before .if2 .taken)) (inr refl) (omega (arith, c .before .before .before .before .span .ensures .0)) (omega arith) (λ gc pc. c .policy-parts .ensures .1 z gc pc))
+party-returns-2 t c = (omega arith, λ z. party-is _ Policy (fits (c .before .before .is-policy .ensures) (c .before .if2 .taken)) (inr refl) (omega (arith, c .before .before .before .before .span .ensures .0)) (omega arith) (λ gc pc. c .policy-parts .ensures .1 z gc pc))
 
 party-is-set-requires : (t : ℕ) → party-lts.Need-is-set-requires (party-calls t) (party-at t) party.Post party-Inv-loop party-μ-loop
 party-is-set-requires t c κs = search needs
@@ -75,7 +75,7 @@ party-add-section-row : (t : ℕ) → party-lts.Need-add-section-row (party-call
 party-add-section-row t c = search needs
 
 party-section-row-requires : (t : ℕ) → party-lts.Need-section-row-requires (party-calls t) (party-at t) party.Post party-Inv-loop party-μ-loop
-party-section-row-requires t c κs = let s = fit-span _ _ (c .before .is-set .ensures (not-false _ (c .if3 .left))) in (omega (arith, s, c .before .before .before .before .before .span .ensures .0), omega arith, omega arith)
+party-section-row-requires t c κs = let s = fit-span _ _ (fits (c .before .is-set .ensures) (not-false _ (c .if3 .left))) in (omega (arith, s, c .before .before .before .before .before .span .ensures .0), omega arith, omega arith)
 
 party-returns-4 : (t : ℕ) → party-lts.Need-returns-4 (party-calls t) (party-at t) party.Post party-Inv-loop party-μ-loop
 party-returns-4 t c = (omega arith, λ z. absurd (omega arith))
@@ -90,7 +90,9 @@ party-own-requires : (t : ℕ) → party-lts.Need-own-requires (party-calls t) (
 party-own-requires t c κs = (omega arith, omega arith, omega arith, omega arith)
 
 party-returns-5 : (t : ℕ) → party-lts.Need-returns-5 (party-calls t) (party-at t) party.Post party-Inv-loop party-μ-loop
-party-returns-5 t c = (omega arith, λ z. let o = c .own .ensures .1 z in party-is _ PolicySet (c .before .before .before .before .before .before .before .before .is-set .ensures (not-false _ (c .before .before .before .before .before .before .before .if3 .left))) (inl refl) (omega (arith, c .before .before .before .before .before .before .before .before .before .before .before .before .span .ensures .0)) (omega arith) (λ gc pc. row-due _ (omega (arith, o .0)) (row-then _ (c .before .before .before .before .loop .inv .3 gc pc) (row-lower _ (o .1 1 gc pc refl) (omega arith)))))
+party-returns-5 t c =
+    let a = c .before .before .before .before .before .before .before in
+    (omega arith, λ z. let o = c .own .ensures .1 z in party-is _ PolicySet (fits (a .before .is-set .ensures) (not-false _ (a .if3 .left))) (inl refl) (omega (arith, a .before .before .before .before .before .span .ensures .0)) (omega arith) (λ gc pc. row-due _ (omega (arith, o .0)) (row-then _ (c .before .before .before .before .loop .inv .3 gc pc) (row-lower _ (o .1 1 gc pc refl) (omega arith)))))
 
 party-returns-6 : (t : ℕ) → party-lts.Need-returns-6 (party-calls t) (party-at t) party.Post party-Inv-loop party-μ-loop
 party-returns-6 t c = (omega arith, λ z. absurd (omega arith))
@@ -126,7 +128,9 @@ party-add-result : (t : ℕ) → party-lts.Need-add-result (party-calls t) (part
 party-add-result t c = search needs
 
 party-returns-8 : (t : ℕ) → party-lts.Need-returns-8 (party-calls t) (party-at t) party.Post party-Inv-loop party-μ-loop
-party-returns-8 t c = (omega arith, λ z. party-is _ PolicySet (c .before .before .before .before .before .is-set .ensures (not-false _ (c .before .before .before .before .if3 .left))) (inl refl) (omega (arith, c .before .before .before .before .before .before .before .before .before .span .ensures .0)) (omega arith) (λ gc pc. row-due _ (omega arith) (row-then _ (c .before .loop .inv .3 gc pc) (row-none _ (omega arith) (omega arith)))))
+party-returns-8 t c =
+    let a = c .before .before .before .before in
+    (omega arith, λ z. party-is _ PolicySet (fits (a .before .is-set .ensures) (not-false _ (a .if3 .left))) (inl refl) (omega (arith, a .before .before .before .before .before .span .ensures .0)) (omega arith) (λ gc pc. row-due _ (omega arith) (row-then _ (c .before .loop .inv .3 gc pc) (row-none _ (omega arith) (omega arith)))))
 
 pub +party-spec : {M : Type 1} → statement M
 +party-spec = close μ-party λ t. party-lts.spec (party-calls t)

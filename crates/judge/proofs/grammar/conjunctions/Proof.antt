@@ -1,5 +1,5 @@
 use Rattle.record.proofs.Choose.{no-false}
-use Rattle.judge.proofs.Fits.{fit-end}
+use Rattle.judge.proofs.Fits.{fits, fit-end}
 use Rattle.judge.proofs.Children.{conjunction-more}
 use Rattle.judge.proofs.Rows.{row-none}
 use Rattle.judge.specs.Row.{Row}
@@ -24,23 +24,25 @@ loop-holds c = (omega arith, omega arith, λ d gc l. row-none _ refl (omega arit
 
 matches-requires : tie.Need-matches-requires Inv-loop μ-loop
 matches-requires c κs =
-    let f = c .before .before .before .is-conjunction .ensures (not-false _ (c .before .before .if1 .left)) in
+    let f = fits (c .before .before .before .is-conjunction .ensures) (not-false _ (c .before .before .if1 .left)) in
     let h = fit-end _ _ f (c .before .span .ensures .0) in
     (omega arith, omega arith)
 
 loop-less : tie.Need-loop-less Inv-loop μ-loop
 loop-less c =
-    let f = c .before .before .before .before .before .is-conjunction .ensures (not-false _ (c .before .before .before .before .if1 .left)) in
+    let a = c .before .before .before .before in
+    let f = fits (a .before .is-conjunction .ensures) (not-false _ (a .if1 .left)) in
     let h = fit-end _ _ f (c .before .before .before .span .ensures .0) in
     omega arith
 
 loop-again : tie.Need-loop-again Inv-loop μ-loop
 loop-again c =
-    let f = c .before .before .before .before .before .is-conjunction .ensures (not-false _ (c .before .before .before .before .if1 .left)) in
+    let a = c .before .before .before .before in
+    let f = fits (a .before .is-conjunction .ensures) (not-false _ (a .if1 .left)) in
     let h = fit-end _ _ f (c .before .before .before .span .ensures .0) in (
       omega arith,
       omega arith,
-      conjunction-more _ (c .before .before .before .span .ensures .0) refl (c .before .before .if2 .left) (c .before .before .before .before .before .before .before .loop .inv .2) f (c .before .matches .ensures (not-false _ (c .if3 .left))),
+      conjunction-more _ (c .before .before .before .span .ensures .0) refl (c .before .before .if2 .left) (a .before .before .before .loop .inv .2) f (c .before .matches .ensures (not-false _ (c .if3 .left))),
     )
 
 returns-4 : tie.Need-returns-4 Inv-loop μ-loop

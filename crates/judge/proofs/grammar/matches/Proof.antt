@@ -1,3 +1,4 @@
+use Rattle.judge.proofs.Fits.{fits}
 use Rattle.record.proofs.Choose.{no-false}
 use Rattle.judge.proofs.Children.{match-more}
 use Rattle.judge.proofs.Rows.{row-none}
@@ -22,7 +23,7 @@ loop-holds : tie.Need-loop-holds Inv-loop μ-loop
 loop-holds c = (omega arith, omega arith, λ d pc l. row-none _ refl (omega arith))
 
 loop-again : tie.Need-loop-again Inv-loop μ-loop
-loop-again c = (omega arith, omega arith, match-more _ (c .before .before .before .before .before .loop .inv .2) (c .before .before .before .is-match .ensures (not-false _ (c .before .before .if1 .left))) (c .before .before .before .before .loop-test .taken) (c .before .byte .ensures .0) (c .if2 .left))
+loop-again c = (omega arith, omega arith, match-more _ (c .before .before .before .before .before .loop .inv .2) (fits (c .before .before .before .is-match .ensures) (not-false _ (c .before .before .if1 .left))) (c .before .before .before .before .loop-test .taken) (c .before .byte .ensures .0) (c .if2 .left))
 
 returns-3 : tie.Need-returns-3 Inv-loop μ-loop
 returns-3 c = λ e d pc l. let q : c .before .loop .i ≡ c .before .before .before .args .end = omega arith in rw q at (c .before .loop .inv .2 d pc l)

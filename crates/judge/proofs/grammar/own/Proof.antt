@@ -1,3 +1,4 @@
+use Rattle.judge.proofs.Fits.{fits}
 use Rattle.judge.proofs.Children.{own-more}
 use Rattle.judge.proofs.Rows.{row-none}
 use Rattle.judge.specs.Row.{Row}
@@ -28,7 +29,7 @@ returns-2 : tie.Need-returns-2 Inv-loop μ-loop
 returns-2 c = (omega arith, λ z. absurd (omega arith))
 
 loop-again : tie.Need-loop-again Inv-loop μ-loop
-loop-again c = (omega arith, omega arith, λ pn gc pc l. own-more _ (c .before .before .before .before .loop .inv .2 pn gc pc l) (c .before .is-obligation .ensures (not-false _ (c .if2 .left))) (c .before .before .before .loop-test .taken) l (c .before .before .if1 .left))
+loop-again c = (omega arith, omega arith, λ pn gc pc l. own-more _ (c .before .before .before .before .loop .inv .2 pn gc pc l) (fits (c .before .is-obligation .ensures) (not-false _ (c .if2 .left))) (c .before .before .before .loop-test .taken) l (c .before .before .if1 .left))
 
 returns-3 : tie.Need-returns-3 Inv-loop μ-loop
 returns-3 c = (omega arith, λ z. (refl, λ pn gc pc l. let q : c .before .loop .i ≡ c .before .before .before .args .end = omega arith in rw q at (c .before .loop .inv .2 pn gc pc l)))

@@ -1,5 +1,5 @@
 use Rattle.judge.proofs.Parts.{rule-more}
-use Rattle.judge.proofs.Fits.{fit-span}
+use Rattle.judge.proofs.Fits.{fits, fit-span}
 use Rattle.judge.proofs.Rows.{row-none}
 use Rattle.judge.specs.Row.{Row}
 use borrow.Author.Tests.{not-false}
@@ -24,13 +24,22 @@ returns : tie.Need-returns Inv-loop μ-loop
 returns c z = c .before .before .before .loop .inv
 
 rule-parts-requires : tie.Need-rule-parts-requires Inv-loop μ-loop
-rule-parts-requires c κs = let y = fit-span _ _ (c .before .before .before .before .is-rule .ensures (not-false _ (c .before .before .before .if2 .left))) in (omega arith, omega arith, omega arith)
+rule-parts-requires c κs =
+    let a = c .before .before .before in
+    let y = fit-span _ _ (fits (a .before .is-rule .ensures) (not-false _ (a .if2 .left))) in
+    (omega arith, omega arith, omega arith)
 
 loop-less : tie.Need-loop-less Inv-loop μ-loop
-loop-less c = omega (arith, fit-span _ _ (c .before .before .before .before .before .before .is-rule .ensures (not-false _ (c .before .before .before .before .before .if2 .left))))
+loop-less c =
+    let a = c .before .before .before .before .before in
+    omega (arith, fit-span _ _ (fits (a .before .is-rule .ensures) (not-false _ (a .if2 .left))))
 
 loop-again : tie.Need-loop-again Inv-loop μ-loop
-loop-again c = let f = c .before .before .before .before .before .before .is-rule .ensures (not-false _ (c .before .before .before .before .before .if2 .left)) in let y = fit-span _ _ f in (omega arith, omega arith, λ gc pc. rule-more _ (c .before .before .before .before .before .before .before .before .before .before .loop .inv .2 gc pc) f (omega arith) (omega arith) (omega arith) (c .before .rule-parts .ensures (not-false _ (c .if5 .left))))
+loop-again c =
+    let a = c .before .before .before .before .before in
+    let f = fits (a .before .is-rule .ensures) (not-false _ (a .if2 .left)) in
+    let y = fit-span _ _ f in
+    (omega arith, omega arith, λ gc pc. rule-more _ (a .before .before .before .before .before .loop .inv .2 gc pc) f (omega arith) (omega arith) (omega arith) (c .before .rule-parts .ensures (not-false _ (c .if5 .left))))
 
 returns-6 : tie.Need-returns-6 Inv-loop μ-loop
 returns-6 c z = c .before .loop .inv

@@ -1,4 +1,4 @@
-use Rattle.judge.proofs.Fits.{fit-end, section-category}
+use Rattle.judge.proofs.Fits.{fits, fit-end, section-category}
 use Rattle.judge.proofs.Children.{section-more}
 use Rattle.judge.proofs.Rows.{row-none, row-then}
 use Rattle.judge.specs.Row.{Row}
@@ -27,25 +27,28 @@ returns c = λ z. (omega arith, omega arith, λ pn gc pc l. row-then _ (c .befor
 
 conjunctions-requires : tie.Need-conjunctions-requires Inv-loop μ-loop
 conjunctions-requires c κs =
-    let f = c .before .before .before .before .before .before .is-section .ensures (not-false _ (c .before .before .before .before .before .if2 .left)) in
+    let a = c .before .before .before .before .before in
+    let f = fits (a .before .is-section .ensures) (not-false _ (a .if2 .left)) in
     let h = fit-end _ _ f (c .before .before .span .ensures .0) in
     (omega arith, omega arith)
 
 loop-less : tie.Need-loop-less Inv-loop μ-loop
 loop-less c =
-    let f = c .before .before .before .before .before .before .before .before .is-section .ensures (not-false _ (c .before .before .before .before .before .before .before .if2 .left)) in
+    let a = c .before .before .before .before .before .before .before in
+    let f = fits (a .before .is-section .ensures) (not-false _ (a .if2 .left)) in
     let h = fit-end _ _ f (c .before .before .before .before .span .ensures .0) in
     omega arith
 
 loop-again : tie.Need-loop-again Inv-loop μ-loop
 loop-again c =
-    let f = c .before .before .before .before .before .before .before .before .is-section .ensures (not-false _ (c .before .before .before .before .before .before .before .if2 .left)) in
+    let a = c .before .before .before .before .before .before .before in
+    let f = fits (a .before .is-section .ensures) (not-false _ (a .if2 .left)) in
     let h = fit-end _ _ f (c .before .before .before .before .span .ensures .0) in
     let e = c .before .before .before .before .before .before .byte2 .ensures .0 in (
       omega arith,
       omega arith,
       omega (arith, e, section-category _ _ f),
-      λ pn gc pc l. section-more _ (c .before .before .before .before .span .ensures .0) refl (c .before .before .before .if4 .left) (c .before .before .before .before .before .before .before .before .before .before .before .before .loop .inv .3 pn gc pc l) f e (c .before .before .before .before .before .if3 .left) (c .before .before .if5 .left) l
+      λ pn gc pc l. section-more _ (c .before .before .before .before .span .ensures .0) refl (c .before .before .before .if4 .left) (a .before .before .before .before .before .loop .inv .3 pn gc pc l) f e (c .before .before .before .before .before .if3 .left) (c .before .before .if5 .left) l
           (c .before .conjunctions .ensures (not-false _ (c .if6 .left))),
     )
 
