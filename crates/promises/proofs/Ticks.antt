@@ -20,15 +20,15 @@ use Rattle.programme.specs.Layout.{unpackOf, allowed}
 use Rattle.programme.specs.Step.{isOver}
 use Rattle.run.specs.Run.{runOf}
 use Rattle.run.specs.Runs.{stepsLeft}
-use Rattle.run.specs.Tick.{Ticked, admitted, refused, countOf, answered, ranOf, judgedTick, tickOf}
+use Rattle.run.specs.Tick.{Ticked, admitted, refused, countOf, obligationsOf, answered, ranOf, judgedTick, tickOf}
 use Rattle.run.specs.declared.kinds.Answer.{Answer}
 use Rattle.run.specs.declared.kinds.Answer.the-variants.{Running, Finished, Refused}
 use Rattle.run.specs.declared.kinds.Ran.{Ran}
 use Rattle.run.proofs.Laws.{admit-parts}
 use Rattle.run.proofs.Runs.{finished-stays, runs-stay-allowed}
-use Rattle.promises.specs.Place.{Sized}
+use Rattle.promises.specs.Place.{headOf, Sized}
 use Rattle.promises.specs.Steps.{Left, runWith}
-use Rattle.promises.specs.Ticks.{Sound, tickWith, TicksAre, NotRefused, TakesTheSmaller, RefusedStays, AnswersAgain, TicksStaySized}
+use Rattle.promises.specs.Ticks.{Sound, tickWith, TicksAre, NotRefused, TakesTheSmaller, answerBy, outBy, FirstNumberSays, RefusedStays, AnswersAgain, TicksStaySized}
 use Rattle.promises.proofs.Sight.{runs-stay-sized}
 use Rattle.promises.proofs.Steps.{steps-left, runs-are}
 
@@ -114,6 +114,21 @@ takes-the-smaller p q s b out n =
       ap steps-of e ∙ answered-steps (r .state) (r .steps) out (isOver (r .state)) ∙ ap (λ (x : Ran). x .steps) f,
       ap state-of e ∙ answered-state (r .state) (r .steps) out (isOver (r .state)) ∙ ap (λ (x : Ran). x .state) f,
     )
+
+-- what is told and put out, by the first number
+first-says : (s : State) (n : ℕ) (out : List ℕ) (over : Bool) → isOver s ≡ over
+    → (answered over s n out .tick .answer ≡ answerBy (headOf s)) × (answered over s n out .out ≡ outBy (headOf s) (s .places) out)
+unfolding answered isOver countOf obligationsOf
+first-says s n out true e = (rw e refl, rw e refl)
+first-says s n out false e = (rw e refl, rw e refl)
+
+pub first-number-says : FirstNumberSays
+first-number-says p q s b out n =
+    let r : Ran = runOf p (bagsOf q) b s in
+    let e = run-answers p q s b out n in
+    let f : tickOf p q s b out .tick .state ≡ r .state = ap state-of e ∙ answered-state (r .state) (r .steps) out (isOver (r .state)) in
+    let w = first-says (r .state) (r .steps) out (isOver (r .state)) refl in
+    (rw f (ap (λ (t : Ticked). t .tick .answer) e ∙ w .0), rw f (ap (λ (t : Ticked). t .out) e ∙ w .1))
 
 -- refused
 module _ (p q : List ℕ) (s : State) (b : ℕ) (out : List ℕ) where

@@ -4,20 +4,21 @@ use mathlib.Core.Path.{_≡_}
 use mathlib.Core.Bool.{true}
 use mathlib.Core.List.{List, _++_}
 use lib.Dec.{leb}
-use lib.ListN.{length, replicate}
+use lib.ListN.{length, take, replicate}
 use Rattle.record.specs.Choose.{if, either}
 use Rattle.record.specs.Refusals.{badRun}
 use Rattle.meaning.specs.Reading.{bagsOf}
 use Rattle.meaning.specs.declared.Decision.{Decision}
 use Rattle.judge.specs.Request.{judgeRequestOf}
 use Rattle.judge.specs.declared.JudgedRequest.the-variants as judged
+use Rattle.programme.specs.declared.Head.{Head}
 use Rattle.programme.specs.declared.State.{State}
-use Rattle.programme.specs.Step.{isOver}
+use Rattle.programme.specs.Step.{isOver, countBy}
 use Rattle.run.specs.Runs.{stepsLeft}
 use Rattle.run.specs.Tick.{Ticked, admitted, refused, obligationsOf, answered, tickOf}
 use Rattle.run.specs.declared.kinds.Answer.{Answer}
 use Rattle.run.specs.declared.kinds.Answer.the-variants.{Running, Finished, Refused}
-use Rattle.promises.specs.Place.{Sized}
+use Rattle.promises.specs.Place.{headOf, Sized}
 use Rattle.promises.specs.Steps.{afterSteps}
 
 -- nothing is refused before the first step: the request is one, the output has room, and the layout allows programme and state
@@ -49,6 +50,20 @@ TakesTheSmaller =
     (p q : List ℕ) (s : State) (budget : ℕ) (out : List ℕ) → NotRefused (tickOf p q s budget out .tick .answer)
     → (tickOf p q s budget out .tick .steps ≡ min budget (stepsLeft p (bagsOf q) s))
     × (tickOf p q s budget out .tick .state ≡ afterSteps p (bagsOf q) (min budget (stepsLeft p (bagsOf q) s)) s)
+
+-- its answer is read off the first number that it leaves: running, or finished, with which decision and how many obligations; these are the first places, in
+-- order, and the output gets them
+abbrev pub answerBy : Head → Answer
+answerBy h = if (h .over) (Finished (h .reg) (countBy (h .reg) h)) Running
+
+abbrev pub outBy : Head → List ℕ → List ℕ → List ℕ
+outBy h places out = if (h .over) (take (countBy (h .reg) h) places ++ replicate (length out - countBy (h .reg) h) 0) out
+
+abbrev pub FirstNumberSays : Type 0
+FirstNumberSays =
+    (p q : List ℕ) (s : State) (budget : ℕ) (out : List ℕ) → NotRefused (tickOf p q s budget out .tick .answer)
+    → (tickOf p q s budget out .tick .answer ≡ answerBy (headOf (tickOf p q s budget out .tick .state)))
+    × (tickOf p q s budget out .out ≡ outBy (headOf (tickOf p q s budget out .tick .state)) (tickOf p q s budget out .tick .state .places) out)
 
 -- a tick that is refused leaves the state as it was, and takes no step
 abbrev pub RefusedStays : Type 0
