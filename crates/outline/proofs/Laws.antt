@@ -2,52 +2,64 @@
 use mathlib.Core.Path.{_≡_, refl, sym, ap, _∙_, subst}
 use mathlib.Core.Bool.{Bool, true, false, not}
 use mathlib.Core.List.{List, [], _∷_, _++_, append-assoc, append-nil}
-use Prim.Native.Nat.{ℕ, zero, suc, _+_, _-_, _*_, _/_, _%_, _≤_, _<_}
-use native.Mathlib.Nat.{le-refl}
+use Prim.Native.Nat.{ℕ, zero, suc, _+_, _-_, _*_, _/_, _%_, _≤_, _<_, min}
+use native.Mathlib.Nat.{add-zero}
 use native.Mathlib.Numerals.{add-one}
 use native.Mathlib.Omega.{arith}
-use borrow.Author.Tests.{lt-ltb, le-ltb, le-leb, lt-leb, eq-eqb, ne-eqb}
-use lib.Dec.{eqb}
-use lib.ListN.{length, take, set, getD, replicate, length-set, length-append, length-take}
-use lib.Seq.{take-all, take-suc, take-suc-set, take-append-le}
+use borrow.Author.Tests.{leb-true, leb-false, lt-ltb, le-ltb, le-leb, lt-leb, eq-eqb, ne-eqb}
+use lib.Dec.{leb, eqb}
+use lib.ListN.{length, take, set, getD, replicate, length-set, length-append}
+use lib.Seq.{take-suc, set-out, length-sets}
 use Rattle.io.specs.Digits.{glyph}
-use Rattle.outline.specs.Outline.{Says, digitOf, digitsOf, decimalOf, integerOf, plain, escaped, nameOf, exponentOf, fractionOf, signOf, hexesOf, pointOf, writtenOf, powerOf, leadOf, hexOf, halvedOf, wholeOf, isWhole, digitsToo, doubleOf}
+use Rattle.outline.specs.Outline.{lineOf, saidOf, Says, digitOf, digitsOf, decimalOf, integerOf, plain, escaped, nameOf, exponentOf, fractionOf, signOf, hexesOf, pointOf, writtenOf, powerOf, leadOf, hexOf, halvedOf, wholeOf, isWhole, digitsToo, doubleOf}
 
--- a part that is cut again
-take-cut : (n : ℕ) (l ys : List ℕ) → take n (take n l ++ ys) ≡ take n (l ++ ys)
-take-cut zero l ys = refl
-take-cut (suc n) [] ys = refl
-take-cut (suc n) (x ∷ l) ys = ap (λ (r : List ℕ). x ∷ r) (take-cut n l ys)
+-- a line that is full takes nothing more
+full : (xs l : List ℕ) (at : ℕ) → length l ≤ at → lineOf l at xs ≡ l
+unfolding lineOf
+full [] l at h = refl
+full (x ∷ xs) l at h = rw (set-out l at x h) (full xs l (suc at) (omega arith))
 
-take-fits : (n : ℕ) (l : List ℕ) → n ≤ length l → take (length l) (take n l) ≡ take n l
-take-fits n l h = take-all (length l) (take n l) (simp length-take (omega arith))
+-- what begins beyond the end may as well begin at the end
+from-end : (xs l : List ℕ) (at : ℕ) (fits : Bool) → leb at (length l) ≡ fits → lineOf l (min (length l) at) xs ≡ lineOf l at xs
+from-end xs l at true e =
+    let s : min (length l) at ≡ at = omega (arith, leb-true at (length l) e) in
+    rw s
+from-end xs l at false e =
+    let h : length l < at = leb-false at (length l) e in
+    full xs l (min (length l) at) (omega arith) ∙ sym (full xs l at (omega arith))
+
+-- saying more from where the first stopped is saying both
+line-then : (xs ys l : List ℕ) (at : ℕ) → lineOf (lineOf l at xs) (saidOf l at xs) ys ≡ lineOf l at (xs ++ ys)
+unfolding lineOf
+line-then [] ys l at = rw (add-zero at) (from-end ys l at (leb at (length l)) refl)
+line-then (x ∷ xs) ys l at =
+    let e : at + suc (length xs) ≡ suc at + length xs = omega arith in
+    rw (e, ← length-set l at x) (line-then xs ys (set l at x) (suc at))
+
+-- the line stays as long as it was
+pub kept : {a b : List ℕ} {at r : ℕ} {xs : List ℕ} → Says a at xs b r → length b ≡ length a
+unfolding lineOf
+kept {a} {b} {at} {r} {xs} p = rw (p .line) (length-sets a at xs)
 
 -- nothing; a line that is full; a byte
 pub says-none : (l : List ℕ) (at : ℕ) → at ≤ length l → Says l at [] l at
-says-none l at h = (h, record { kept = refl; said = sym (rw (append-nil (take at l)) (take-fits at l h)) })
+unfolding lineOf
+says-none l at h = record { line = refl; said = omega arith }
 
 pub says-full : (l : List ℕ) (at : ℕ) (xs : List ℕ) → length l ≤ at → Says l at xs l (length l)
-says-full l at xs h =
-    (le-refl (length l), record { kept = refl; said = sym (rw (take-all at l h) (take-append-le (length l) l xs (le-refl (length l)))) })
+says-full l at xs h = record { line = sym (full xs l at h); said = omega arith }
 
 pub says-put : (l : List ℕ) (at x : ℕ) → at < length l → Says l at (x ∷ []) (set l at x) (at + 1)
-says-put l at x h =
-    let e : at + 1 ≡ suc at = add-one at in
-    let fits : length (take at l ++ (x ∷ [])) ≤ length l = simp (length-append, length-take) (omega arith) in
-    (simp length-set (omega arith), record { kept = length-set l at x; said = rw e (take-suc-set l at x h) ∙ sym (take-all (length l) (take at l ++ (x ∷ [])) fits) })
+unfolding lineOf
+says-put l at x h = record { line = refl; said = omega arith }
 
 -- one piece after another
 pub then : {a b c : List ℕ} {at m r : ℕ} {xs ys : List ℕ} → Says a at xs b m → Says b m ys c r → Says a at (xs ++ ys) c r
-then {a} {b} {c} {at} {m} {r} {xs} {ys} p q = (
-  q .0,
-  record {
-    kept = q .1 .kept ∙ p .1 .kept;
-    said =
-        q .1 .said
-        ∙ rw (p .1 .kept, p .1 .said) (take-cut (length a) (take at a ++ xs) ys)
-        ∙ ap (take (length a)) (append-assoc (take at a) xs ys);
-  },
-)
+then {a} {b} {c} {at} {m} {r} {xs} {ys} p q =
+    record {
+      line = q .line ∙ rw (p .line, p .said) (line-then xs ys a at);
+      said = omega (arith, kept p, length-append xs ys);
+    }
 
 -- .. said in other words
 pub as-is : {a b : List ℕ} {at r : ℕ} {xs ys : List ℕ} → xs ≡ ys → Says a at xs b r → Says a at ys b r

@@ -1,21 +1,26 @@
 -- Numbers, names and doubles as a person reads them, in ASCII. Assumes nothing.
-use Prim.Native.Nat.{ℕ, zero, suc, _+_, _-_, _*_, _/_, _%_, _≤_}
+use Prim.Native.Nat.{ℕ, zero, suc, _+_, _-_, _*_, _/_, _%_, min}
 use mathlib.Core.Path.{_≡_}
 use mathlib.Core.Bool.{Bool, not}
 use mathlib.Core.List.{List, [], _∷_, _++_}
 use lib.Dec.{eqb, ltb}
-use lib.ListN.{length, take}
+use lib.ListN.{length}
+use lib.Seq.{sets}
 use Rattle.io.specs.Digits.{glyph}
 use Rattle.record.specs.Choose.{if, both, either, among}
 
--- the first `at` bytes of a line, and xs after them, are its first r bytes now: what finds no room is cut
-pub record Adds (before : List ℕ) (at : ℕ) (xs after : List ℕ) (r : ℕ) : Type 0 where
-  pub kept : length after ≡ length before
-  pub said : take r after ≡ take (length before) (take at before ++ xs)
+-- a line with xs stored from place `at` on: what stands before and behind stays, and what finds no room is cut
+unfoldable pub lineOf : List ℕ → ℕ → List ℕ → List ℕ
+lineOf line at xs = sets line at xs
 
--- .. and r bytes of it are there
-abbrev pub Says : List ℕ → ℕ → List ℕ → List ℕ → ℕ → Type 0
-Says before at xs after r = (r ≤ length after) × Adds before at xs after r
+-- how many bytes of it are then said
+abbrev pub saidOf : List ℕ → ℕ → List ℕ → ℕ
+saidOf line at xs = min (length line) (at + length xs)
+
+-- xs is put into a line from place `at` on, and r bytes of it are said
+pub record Says (before : List ℕ) (at : ℕ) (xs after : List ℕ) (r : ℕ) : Type 0 where
+  pub line : after ≡ lineOf before at xs
+  pub said : r ≡ saidOf before at xs
 
 -- the last decimal digit of a number
 abbrev pub digitOf : ℕ → ℕ
