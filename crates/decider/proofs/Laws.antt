@@ -24,11 +24,11 @@ use Rattle.meaning.specs.declared.Algorithm.{Algorithm}
 use Rattle.meaning.specs.declared.Algorithm.the-variants.{RulesDeny, RulesPermit, First, PoliciesDeny, PoliciesPermit, OnlyOne}
 use Rattle.algorithm.specs.Fold.{isOnly, start, result, settled, absorb}
 use Rattle.algorithm.specs.declared.Acc.{Acc}
-use Rattle.decider.specs.Places.{Holds, between}
+use Rattle.decider.specs.Places.{Holds, Stacked, between}
 use Rattle.decider.specs.Inside.{childAt, childrenIn, isParty, isDue, keeps, upOf, upAt, directOf, roomOf, deepOf, Put, Ruled, Applies, Single, Picked, noted, isMany}
 use Rattle.decider.specs.declared.Pick.{Pick}
 use Rattle.decider.specs.declared.Pick.the-variants.{Nobody, One, Many}
-use Rattle.decider.proofs.Stack.{holds-none, holds-both, holds-store, settled as stays}
+use Rattle.decider.proofs.Stack.{holds-none, holds-both, holds-store, settled as stays, settled-within}
 use Rattle.decider.proofs.Rooms.{ends, begins, direct-is, deep-is, nest-kids, nest-rest, rooms}
 use Rattle.decider.proofs.Kept.{Standing, stand-start, stand-turn, stand-end}
 use Rattle.decider.proofs.Children.{at-target, at-effect, at-binds, at-duties, set-is, policy-is, children-none, children-skip, children-more, single-is}
@@ -235,7 +235,7 @@ module _ {b : List ℕ} {g : Bags} {a : Algorithm} {l : List ℕ} {n from count 
         (child : Ruled o m (said (childAt b g i s)) (owed (childAt b g i s .target) (childAt b g i s .duties)) (roomOf b (forest b (i + 1) (s - 1))) c d t)
         (ce : length c ≡ length o) (eu : u ≡ result a acc) (en : next ≡ absorb a acc Permits d) (ev : v ≡ result a next)
         (ex : x ≡ keeps u v) (ey : y ≡ keeps d v) (ez : z ≡ settled a next)
-        (st : Holds c (if x m n) (if y (between m t c) []) f r) (hr : r ≤ t) (hn : n ≤ length l) (hm : m ≤ length o) where
+        (st : Stacked c (if x m n) (if y (between m t c) []) f r) (hn : n ≤ length l) (hm : m ≤ length o) where
       step : Standing a (childrenIn b g from count) next (if z [] (childrenIn b g (i + s) (left - s))) (if x (w .xs) [] ++ if y (owed (childAt b g i s .target) (childAt b g i s .duties)) [])
       step =
           rw (ez, ex, ey, eu, ev, en, child .says, ← at-effect b g i s)
@@ -244,12 +244,15 @@ module _ {b : List ℕ} {g : Bags} {a : Algorithm} {l : List ℕ} {n from count 
       on : Holds l n (if x (w .xs) [] ++ if y (owed (childAt b g i s .target) (childAt b g i s .duties)) []) f r
       on = stays x y (w .holds) (child .puts .holds) hn hm ce st
 
+      no-more : r ≤ t
+      no-more = settled-within x y (omega (arith, w .holds .count)) (omega (arith, child .puts .holds .count)) st
+
       pub walk-turn : length f ≡ length c → z ≡ false → Sofar b g a l n from count (i + s) (left - s) next f r
       walk-turn fe zf = record {
         xs = if x (w .xs) [] ++ if y (owed (childAt b g i s .target) (childAt b g i s .duties)) [];
         holds = on;
         kept = fe ∙ ce ∙ w .kept;
-        room = omega (arith, w .room, child .puts .within, hr, deep-is b i left h e);
+        room = omega (arith, w .room, child .puts .within, no-more, deep-is b i left h e);
         stands = rw zf at step;
       }
 
@@ -257,7 +260,7 @@ module _ {b : List ℕ} {g : Bags} {a : Algorithm} {l : List ℕ} {n from count 
           → Ruled l n (combine a (childrenIn b g from count)) (upOf a (childrenIn b g from count)) (deepOf b (forest b from count)) f v r
       walk-stop zt =
           let k = stand-end a plain (rw zt at step) in
-          record { says = ev ∙ k .0; puts = rw (← k .1) (record { holds = on; within = omega (arith, w .room, child .puts .within, hr, deep-is b i left h e) }) }
+          record { says = ev ∙ k .0; puts = rw (← k .1) (record { holds = on; within = omega (arith, w .room, child .puts .within, no-more, deep-is b i left h e) }) }
 
 -- only-one: the targets so far
 unfoldable pub Seen : List ℕ → Bags → ℕ → ℕ → List Child → Pick → Type 0

@@ -5,10 +5,10 @@ use mathlib.Core.List.{List, [], _∷_, _++_, append-nil, append-assoc}
 use Prim.Native.Nat.{ℕ, suc, _+_, _-_, _≤_, _<_}
 use native.Mathlib.Omega.{arith}
 use native.Mathlib.Numerals.{add-one}
-use lib.ListN.{length, take, drop, set, getD, replicate, length-append, length-drop, length-replicate, take-append-drop, replicate-append-replicate}
-use lib.Seq.{take-take, take-at, drop-at, take-add, take-suc-set, length-take-le, getD-drop, drop-cons, set-at, paste, paste-zero, paste-suc, take-paste, drop-paste, drop-length}
+use lib.ListN.{length, take, drop, set, getD, replicate, length-append, length-take, length-drop, length-replicate, take-append-drop, replicate-append-replicate}
+use lib.Seq.{take-take, take-at, drop-at, take-add, take-suc-set, length-take-le, getD-drop, drop-cons, set-at, paste, paste-zero, paste-suc, drop-paste, drop-length}
 use Rattle.record.specs.Choose.{if}
-use Rattle.decider.specs.Places.{Holds, between}
+use Rattle.decider.specs.Places.{Holds, Stacked, between}
 
 pub holds-none : (l : List ℕ) (n : ℕ) → Holds l n [] l n
 holds-none l n = record { front = sym (append-nil (take n l)); count = omega arith }
@@ -39,16 +39,30 @@ pub below : {l e : List ℕ} {n m : ℕ} {ys : List ℕ} → Holds l n ys e m �
 below {l} {e} {n} {m} {ys} p h =
     sym (take-take n m e (omega (arith, p .count))) ∙ ap (take n) (p .front) ∙ take-at (take n l) ys n (length-take-le n l h)
 
+-- what stands below the height of a stack
+holds-below : {l e : List ℕ} {n m : ℕ} {xs : List ℕ} → Stacked l n xs e m → n ≤ length l → Holds l n xs e m
+holds-below {l} {e} {n} {m} {xs} p h =
+    let k : length (take n l ++ xs) ≡ m = length-append (take n l) xs ∙ omega (arith, length-take-le n l h, p .count) in
+    record { front = rw (p .places) (take-at (take n l ++ xs) (drop m l) m k); count = p .count }
+
 -- a child was put on top of what was there; then some of the two stay
 pub settled : (old new : Bool) {l o e f : List ℕ} {n m k r : ℕ} {xs ys : List ℕ} → Holds l n xs o m → Holds o m ys e k
     → n ≤ length l → m ≤ length o → length e ≡ length o
-    → Holds e (if old m n) (if new (between m k e) []) f r → Holds l n (if old xs [] ++ if new ys []) f r
+    → Stacked e (if old m n) (if new (between m k e) []) f r → Holds l n (if old xs [] ++ if new ys []) f r
 settled true new {l} {o} {e} {f} {n} {m} {k} {r} {xs} {ys} p q hl ho he w =
-    holds-both (record { front = below q ho ∙ p .front; count = p .count }) (rw (on-top q ho he) at w)
+    holds-both (record { front = below q ho ∙ p .front; count = p .count }) (rw (on-top q ho he) at (holds-below w (omega arith)))
 settled false new {l} {o} {e} {f} {n} {m} {k} {r} {xs} {ys} p q hl ho he w =
     let a : take n e ≡ take n l =
     sym (take-take n m e (omega (arith, p .count))) ∙ ap (take n) (below q ho ∙ p .front) ∙ take-at (take n l) xs n (length-take-le n l hl) in
-    holds-both (record { front = a ∙ sym (append-nil (take n l)); count = omega arith }) (rw (on-top q ho he) at w)
+    holds-both (record { front = a ∙ sym (append-nil (take n l)); count = omega arith }) (rw (on-top q ho he) at (holds-below w (omega (arith, p .count))))
+
+-- .. and no more than there was
+pub settled-within : (old new : Bool) {l o : List ℕ} {n m e r : ℕ} → n ≤ m → m ≤ e → Stacked l (if old m n) (if new (between m e l) []) o r → r ≤ e
+unfolding between
+settled-within true true {l} {m = m} {e = e} h g w = omega (arith, w .count, length-take (e - m) (drop m l))
+settled-within true false h g w = omega (arith, w .count)
+settled-within false true {l} {m = m} {e = e} h g w = omega (arith, w .count, length-take (e - m) (drop m l))
+settled-within false false h g w = omega (arith, w .count)
 
 -- the whole, once the rest is cleared
 pub cleared : {l e f : List ℕ} {m : ℕ} {xs : List ℕ} → Holds l 0 xs e m → length e ≡ length l → f ≡ take m e ++ replicate (length e - m) 0
@@ -56,6 +70,10 @@ pub cleared : {l e f : List ℕ} {m : ℕ} {xs : List ℕ} → Holds l 0 xs e m 
 cleared {l} {e} {f} {m} {xs} p k w =
     let c : length e - m ≡ length l - length xs = omega (arith, p .count) in
     w ∙ ap (λ z. z ++ replicate (length e - m) 0) (p .front) ∙ ap (λ z. xs ++ replicate z 0) c
+
+length-between : (l : List ℕ) (m e : ℕ) → m ≤ e → e ≤ length l → length (between m e l) ≡ e - m
+unfolding between
+length-between l m e h g = length-take-le (e - m) (drop m l) (omega (arith, length-drop m l))
 
 -- the loop that moves
 pub shift-none : (l : List ℕ) (at m : ℕ) → l ≡ paste l at (drop m l) 0
@@ -73,15 +91,10 @@ shift-more l o at m k h g e =
     ∙ getD-drop (at + k) l (m - at) 0 ∙ ap (λ z. getD l z 0) c ∙ sym (getD-drop m l k 0) in
     rw (e, v) (paste-suc l at (drop m l) k 0 (omega arith) (omega arith) ∙ ap (paste l at (drop m l)) (sym (add-one k)))
 
-pub shift-done : (l o : List ℕ) (at m e k : ℕ) → at ≤ m → m ≤ e → e ≤ length l → k ≡ e - m → o ≡ paste l at (drop m l) k
-    → Holds l at (between m e l) o (at + (e - m))
+pub shift-done : (l o : List ℕ) (at m e k : ℕ) → m ≤ e → e ≤ length l → k ≡ e - m → o ≡ paste l at (drop m l) k
+    → Stacked l at (between m e l) o (at + (e - m))
 unfolding between
-shift-done l o at m e k h g j q w =
-    let dl : length (drop m l) ≡ length l - m = length-drop m l in
-    record {
-      front = ap (take (at + (e - m))) (w ∙ ap (paste l at (drop m l)) q) ∙ take-paste l at (drop m l) (e - m) (omega arith) (omega arith);
-      count = omega (arith, length-take-le (e - m) (drop m l) (omega arith));
-    }
+shift-done l o at m e k g j q w = record { places = w ∙ ap (paste l at (drop m l)) q; count = omega (arith, length-between l m e g j) }
 
 -- the loop that clears
 pub clear-none : (l : List ℕ) (n : ℕ) → l ≡ take n l ++ (replicate (n - n) 0 ++ drop n l)
@@ -105,11 +118,14 @@ pub clear-done : (l o : List ℕ) (n k : ℕ) → k ≡ length l → o ≡ take 
 clear-done l o n k e w = w ∙ rw (e, drop-length, append-nil)
 
 -- nothing is moved
-pub keep-both : (l : List ℕ) (m e : ℕ) → m ≤ e → e ≤ length l → Holds l m (between m e l) l e
+pub keep-both : (l : List ℕ) (m e : ℕ) → m ≤ e → e ≤ length l → Stacked l m (between m e l) l e
 unfolding between
 keep-both l m e h g =
     let c : m + (e - m) ≡ e = omega arith in
     record {
-      front = ap (λ z. take z l) (sym c) ∙ take-add m (e - m) l;
-      count = omega (arith, length-take-le (e - m) (drop m l) (omega (arith, length-drop m l)));
+      places = sym (take-append-drop e l) ∙ ap (λ z. z ++ drop e l) (ap (λ z. take z l) (sym c) ∙ take-add m (e - m) l);
+      count = omega (arith, length-between l m e h g);
     }
+
+pub keep-first : (l : List ℕ) (n : ℕ) → Stacked l n [] l n
+keep-first l n = record { places = sym (rw (append-nil (take n l)) (take-append-drop n l)); count = omega arith }

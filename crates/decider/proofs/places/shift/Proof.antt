@@ -24,7 +24,11 @@ same-length : tie.Need-same-length Inv-loop μ-loop
 same-length c = c .before .loop .inv .2
 
 returns : tie.Need-returns Inv-loop μ-loop
-returns c = (shift-done (c .before .before .args .out .now) (c .before .loop .out) (c .before .before .args .at) (c .before .before .args .m) (c .before .before .args .e) (c .before .loop .k) (c .before .before .pre .0) (c .before .before .pre .1) (c .before .before .pre .2) (omega arith) (c .before .loop .inv .3), omega arith)
+returns c =
+    let loop = c .before .loop in
+    let args = c .before .before .args in
+    let pre = c .before .before .pre in
+    shift-done (args .out .now) (loop .out) (args .at) (args .m) (args .e) (loop .k) (pre .1) (pre .2) (omega arith) (loop .inv .3)
 
 pub shift-spec : {M : Type 1} → statement M
 shift-spec =
