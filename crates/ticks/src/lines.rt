@@ -2,9 +2,9 @@
 use run::kinds::Answer;
 ghost use mathlib.Core.Path.{_≡_};
 ghost use Prim.Native.Nat.{_<_, _≤_};
-ghost use lib.ListN.{length, take};
+ghost use lib.ListN.{length};
 ghost use Rattle.record.specs.Bytes.{mostRecords};
-ghost use Rattle.ticks.specs.Lines.{longest, stepsOf, answerLine};
+ghost use Rattle.ticks.specs.Lines.{longest, stepsOf, answerLine, Leads};
 
 // The steps, and a space.
 pub fn steps_digits(steps: u64) -> [u8; 5]
@@ -24,7 +24,7 @@ pub fn steps_digits(steps: u64) -> [u8; 5]
 // Puts the line of an answer first into `out`, and answers its length. `places` holds the obligations.
 pub fn answer_line(answer: Answer, places: &[u16], out: &mut [u8]) -> usize
     requires { ⌜ (length (now places) ≤ mostRecords) × (longest ≤ length (now out)) ⌝ }
-    ensures { λ r. ⌜ (r ≤ length (now (out .exit))) × (take r (now (out .exit)) ≡ answerLine answer (now (places .entry))) ⌝ }
+    ensures { λ r. ⌜ Leads (answerLine answer (now (places .entry))) (now (out .entry)) (now (out .exit)) r ⌝ }
 {
     match answer {
         Answer::Running => {

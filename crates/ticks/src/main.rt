@@ -9,9 +9,11 @@ use record::Refusal;
 use run::kinds::Answer;
 use text::Filled;
 use translator::Translated;
+ghost use mathlib.Core.Path.{_≡_};
 ghost use Prim.Native.Nat.{_<_, _≤_};
 ghost use lib.ListN.{length};
 ghost use Rattle.record.specs.Bytes.{mostRecords};
+ghost use Rattle.ticks.specs.Lines.{isRunning, afterOf};
 
 mod budget;
 mod lines;
@@ -61,7 +63,9 @@ fn refuse(refusal: Refusal) {
     show(0, Answer::Refused(refusal), &places);
 }
 
-fn is_running(answer: Answer) -> bool {
+fn is_running(answer: Answer) -> bool
+    ensures { λ r. ⌜ r ≡ isRunning answer ⌝ }
+{
     match answer {
         Answer::Running => true,
         Answer::Finished(_, _) => false,
@@ -75,7 +79,9 @@ struct After {
     running: bool,
 }
 
-fn turn(programme: &[u64], request: &[u8], state: State, budget: u64) -> After {
+fn turn(programme: &[u64], request: &[u8], state: State, budget: u64) -> After
+    ensures { λ r. ⌜ r ≡ afterOf (now (programme .entry)) (now (request .entry)) state budget ⌝ }
+{
     let mut places = [0u16; 1000];
     let ticked = run::tick(programme, request, state, budget, &mut places);
     let answer = ticked.answer;

@@ -1,6 +1,7 @@
 use lib.ListN.{length-take}
 use native.Mathlib.Omega.{arith}
 use borrow.Author.Needs.{needs}
+use Rattle.ticks.proofs.Printed.{leads-within}
 use Rattle.ticks.proofs.show.Statement.{statement}
 use Rattle.ticks.proofs.show.Tie as tie
 
@@ -20,10 +21,10 @@ write-all-requires : tie.Need-write-all-requires
 write-all-requires c κs = search needs
 
 array-share-prefix-out : tie.Need-array-share-prefix-out
-array-share-prefix-out c = search needs
+array-share-prefix-out c = omega (arith, leads-within (c .before .before .before .answer-line .ensures))
 
 slice-aggregate-write-all-2 : tie.Need-slice-aggregate-write-all-2
-slice-aggregate-write-all-2 c = simp length-take (omega (arith, c .before .before .before .before .answer-line .ensures .0))
+slice-aggregate-write-all-2 c = simp length-take (omega (arith, leads-within (c .before .before .before .before .answer-line .ensures)))
 
 write-all-requires-2 : tie.Need-write-all-requires-2
 write-all-requires-2 c κs = search needs

@@ -1,4 +1,5 @@
 use borrow.Author.Needs.{needs}
+use Rattle.ticks.specs.Lines.{afterOf}
 use Rattle.ticks.proofs.Few.{few-steps}
 use Rattle.ticks.proofs.turn.Statement.{statement}
 use Rattle.ticks.proofs.turn.Tie as tie
@@ -19,7 +20,8 @@ is-running-requires : tie.Need-is-running-requires
 is-running-requires c κs = search needs
 
 returns : tie.Need-returns
-returns c = search needs
+unfolding afterOf
+returns c = rw (c .is-running .ensures, c .before .before .before .before .before .tick .ensures .0)
 
 pub turn-spec : {M : Type 1} → statement M
 turn-spec =

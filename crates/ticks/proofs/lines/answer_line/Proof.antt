@@ -48,7 +48,7 @@ returns-2 c =
     let answer = c .before .before .before .before .before .before .answer in
     let number = c .before .before .before .before .number in
     let decision-line = c .before .before .decision-line in
-    finished-put (args .out .now) (args .places .now) (pre .1) (pre .0) (decision-line .kept .1 .1 .1 .0) _ _ (answer .given .1) (number .ensures .0) (decision-line .ensures .0) (decision-line .ensures .1)
+    finished-put (args .out .now) (args .places .now) (pre .1) (pre .0) _ _ (answer .given .1) (number .ensures .0) (decision-line .ensures .0) (decision-line .ensures .1)
 
 same-length-3 : tie.Need-same-length-3
 same-length-3 c = search needs
@@ -59,7 +59,7 @@ returns-3 c =
     let pre = c .before .before .before .before .before .before .before .before .before .pre in
     let answer2 = c .before .before .before .before .before .answer2 in
     let refusal-line = c .before .before .refusal-line in
-    refused-put (args .out .now) (args .places .now) (pre .1) (pre .0) (refusal-line .kept .1 .0) _ (answer2 .given .1) (refusal-line .ensures .0) (refusal-line .ensures .1)
+    refused-put (args .out .now) (args .places .now) (pre .1) (pre .0) _ (answer2 .given .1) (refusal-line .ensures .0) (refusal-line .ensures .1)
 
 pub answer-line-spec : {M : Type 1} → statement M
 answer-line-spec =
