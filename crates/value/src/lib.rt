@@ -1,7 +1,7 @@
 // Attribute values, and the functions 1 to 5 that compare them.
 ghost use mathlib.Core.Path.{_≡_};
 ghost use lib.Dec.{T};
-ghost use Rattle.value.specs.Value.{signed64, finiteOf, valueOf, noNan, greaterOf, equalOf, atLeastOf, functionOf, holdsOf};
+ghost use Rattle.value.specs.Value.{signed64, finiteOf, valueOf, noNan, greaterOf, equalOf, atLeastOf, functionOf, testOf};
 
 pub enum Value {
     Integer(i64),
@@ -48,7 +48,7 @@ fn signed(n: u64) -> i64
 }
 
 // The value that eight bytes of the type kind stand for.
-fn value_of(kind: usize, n: u64) -> Value
+pub fn value_of(kind: usize, n: u64) -> Value
     ensures { λ r. ⌜ (r ≡ valueOf kind n) × T (noNan r) ⌝ }
 {
     if kind == 1 {
@@ -117,17 +117,16 @@ fn at_least(a: Value, b: Value) -> bool
     equal(a, b)
 }
 
-// Function f of the literal and the request's value, both of the type kind.
-pub fn holds(f: Function, kind: usize, literal: u64, given: u64) -> bool
-    ensures { λ r. ⌜ r ≡ holdsOf f kind literal given ⌝ }
+// Function f of the literal and the request's value.
+pub fn holds(f: Function, literal: Value, given: Value) -> bool
+    requires { ⌜ T (noNan literal) × T (noNan given) ⌝ }
+    ensures { λ r. ⌜ r ≡ testOf f literal given ⌝ }
 {
-    let a = value_of(kind, literal);
-    let b = value_of(kind, given);
     match f {
-        Function::Equal => equal(a, b),
-        Function::Greater => greater(a, b),
-        Function::GreaterOrEqual => at_least(a, b),
-        Function::Less => greater(b, a),
-        Function::LessOrEqual => at_least(b, a),
+        Function::Equal => equal(literal, given),
+        Function::Greater => greater(literal, given),
+        Function::GreaterOrEqual => at_least(literal, given),
+        Function::Less => greater(given, literal),
+        Function::LessOrEqual => at_least(given, literal),
     }
 }
