@@ -8,7 +8,7 @@ use Rattle.record.specs.Forest.{forest, spanIn}
 use Rattle.meaning.specs.Logic.{some}
 use Rattle.meaning.specs.Policy.{Target, Rule, Obligation, OverRules, OverPolicies, Tree, policy, set, Trees}
 use Rattle.meaning.specs.Meaning.{Bags, targetOf, decisionOf, Child, is, unsure, keep, applying, combine, stops, hands, handed, ownOf, binding, nodeOf, overRules, overPolicies, ruleOf, ruleChild, ruleChildren, childOf, childrenOf}
-use Rattle.meaning.specs.Reading.{isKind, choiceAt, targetIn, rulesIn, rulesBy, policiesBy, obligationsIn, treeAt, treesIn}
+use Rattle.meaning.specs.Reading.{isKind, choiceAt, targetIn, rulesIn, rulesBy, policiesBy, obligationsIn, treeAt, treesIn, isParty}
 use Rattle.meaning.specs.declared.Truth.{Truth}
 use Rattle.meaning.specs.declared.Truth.the-variants.{True, False, Unknown}
 use Rattle.meaning.specs.declared.Effect.{Effect}
@@ -17,7 +17,7 @@ use Rattle.meaning.specs.declared.Decision.{Decision}
 use Rattle.meaning.specs.declared.Decision.the-variants.{Permit, Deny, NotApplicable, Indeterminate}
 use Rattle.meaning.specs.declared.Algorithm.{Algorithm}
 use Rattle.meaning.specs.declared.Algorithm.the-variants.{OnlyOne}
-use Rattle.decider.specs.Inside.{treeFrom, childAt, childrenIn, isParty, upOf, upIn, upAt}
+use Rattle.decider.specs.Inside.{treeFrom, childAt, childrenIn, upOf, upIn, upAt}
 use Rattle.decider.proofs.Rooms.{ends, begins}
 use Rattle.decider.proofs.Kept.{bind-none}
 

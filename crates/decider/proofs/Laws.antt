@@ -14,7 +14,7 @@ use Rattle.record.proofs.Choose.{both-left}
 use Rattle.meaning.specs.Numbers.{numberOf}
 use Rattle.meaning.specs.Logic.{isUnknown, some}
 use Rattle.meaning.specs.Meaning.{Bags, targetOf, Child, said, owed, is, unsure, keep, applying, decisionOf, combine, ownOf, binding, overRules, overPolicies, ruleChildren}
-use Rattle.meaning.specs.Reading.{isKind, choiceAt, effectOf, targetIn, rulesIn, rulesBy, policiesBy, obligationAt, obligationsIn}
+use Rattle.meaning.specs.Reading.{isKind, choiceAt, effectOf, targetIn, rulesIn, rulesBy, policiesBy, obligationAt, obligationsIn, isParty}
 use Rattle.meaning.specs.declared.Truth.{Truth}
 use Rattle.meaning.specs.declared.Truth.the-variants.{True, False, Unknown}
 use Rattle.meaning.specs.declared.Effect.the-variants.{Permits}
@@ -25,7 +25,7 @@ use Rattle.meaning.specs.declared.Algorithm.the-variants.{RulesDeny, RulesPermi
 use Rattle.algorithm.specs.Fold.{isOnly, start, result, settled, absorb}
 use Rattle.algorithm.specs.declared.Acc.{Acc}
 use Rattle.decider.specs.Places.{Holds, Stacked, between}
-use Rattle.decider.specs.Inside.{childAt, childrenIn, isParty, isDue, keeps, upOf, upAt, directOf, roomOf, deepOf, Put, Ruled, Applies, Single, Picked, noted, isMany}
+use Rattle.decider.specs.Inside.{childAt, childrenIn, isDue, keeps, upOf, upAt, directOf, roomOf, deepOf, Put, Ruled, Applies, Single, Picked, noted, isMany}
 use Rattle.decider.specs.declared.Pick.{Pick}
 use Rattle.decider.specs.declared.Pick.the-variants.{Nobody, One, Many}
 use Rattle.decider.proofs.Stack.{holds-none, holds-both, holds-store, settled as stays, settled-within}

@@ -4,7 +4,7 @@ use mathlib.Core.Path.{_≡_}
 use mathlib.Core.Bool.{Bool, true, false}
 use mathlib.Core.List.{List, [], _∷_, _++_}
 use lib.ListN.{length, replicate}
-use Rattle.record.specs.Choose.{if, both, either}
+use Rattle.record.specs.Choose.{if, both}
 use Rattle.record.specs.Forest.{Forest, none, node, forest, height}
 use Rattle.meaning.specs.Logic.{some}
 use Rattle.meaning.specs.Policy.{Tree, policy, set}
@@ -31,10 +31,7 @@ childAt b g i s = childOf g (treeFrom b i s)
 unfoldable pub childrenIn : List ℕ → Bags → ℕ → ℕ → List Child
 childrenIn b g from count = childrenOf g (treesIn b (forest b from count))
 
--- is record i a policy or a set? Is it an obligation for d?
-abbrev pub isParty : List ℕ → ℕ → Bool
-isParty b i = either (isKind b i 1) (isKind b i 2)
-
+-- is record i an obligation for d?
 unfoldable pub isDue : List ℕ → ℕ → Decision → Bool
 isDue b i d = both (isKind b i 8) (is d (decisionOf (effectOf (choiceAt b i))))
 

@@ -16,7 +16,7 @@ ghost use Rattle.meaning.specs.Reading.{policiesBy, obligationsIn, bagsOf};
 ghost use Rattle.algorithm.specs.Fold.{isOnly};
 ghost use Rattle.fields.specs.Fields.{obligationsOf};
 ghost use Rattle.decider.specs.Outcome.{outcomeOf, outOf};
-ghost use Rattle.decider.specs.Inside.{Answered, childAt, childrenIn, isParty, isDue, keeps, upOf, upAt, directOf, roomOf, deepOf, Put, Ruled, Picked, noted, isMany};
+ghost use Rattle.decider.specs.Inside.{Answered, childAt, childrenIn, isDue, keeps, upOf, upAt, directOf, roomOf, deepOf, Put, Ruled, Picked, noted, isMany};
 
 mod places;
 
@@ -68,34 +68,6 @@ fn is_only(a: Algorithm) -> bool
         Algorithm::PoliciesPermit => false,
         Algorithm::OnlyOne => true,
     }
-}
-
-// The algorithm over policies that a set's choice names.
-fn over_policies(choice: usize) -> Algorithm
-    ensures { λ r. ⌜ r ≡ overPolicies (policiesBy choice) ⌝ }
-{
-    if choice == 1 {
-        return Algorithm::PoliciesDeny;
-    }
-    if choice == 2 {
-        return Algorithm::PoliciesPermit;
-    }
-    if choice == 3 {
-        return Algorithm::First;
-    }
-    Algorithm::OnlyOne
-}
-
-// Whether record i is a policy or a set.
-fn is_party(book: &[u8], i: usize) -> bool
-    requires { ⌜ (i + 1) * 16 ≤ length (now book) ⌝ }
-    ensures { λ r. ⌜ r ≡ isParty (now (book .entry)) i ⌝ }
-{
-    let kind = record::byte(book, i, 0);
-    if kind == 1 {
-        return true;
-    }
-    kind == 2
 }
 
 // Whether record i is an obligation for d.
@@ -187,7 +159,7 @@ fn choose(book: &[u8], request: &[u8], from: usize, count: usize) -> Pick
     let mut p = Pick::Nobody;
     while 0 < left {
         let s = record::span_in(book, i, left);
-        if !is_party(book, i) {
+        if !meaning::is_party(book, i) {
             i += s;
             left -= s;
             continue;
@@ -283,7 +255,7 @@ fn gather(
             count: n,
         };
     }
-    let a = over_policies(choice);
+    let a = meaning::over_policies(choice);
     if is_only(a) {
         let p = choose(book, request, i + 1, s - 1);
         return match p {
@@ -324,7 +296,7 @@ fn walk(
     let mut m = n;
     while 0 < left {
         let s = record::span_in(book, i, left);
-        if !is_party(book, i) {
+        if !meaning::is_party(book, i) {
             i += s;
             left -= s;
             continue;

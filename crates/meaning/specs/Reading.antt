@@ -21,6 +21,10 @@ use Rattle.meaning.specs.declared.Effect.the-variants.{Permits, Denies}
 abbrev pub isKind : List ℕ → ℕ → ℕ → Bool
 isKind b i k = eqb (byteOf b i 0) k
 
+-- a policy or a set
+abbrev pub isParty : List ℕ → ℕ → Bool
+isParty b i = either (isKind b i 1) (isKind b i 2)
+
 abbrev pub choiceAt : List ℕ → ℕ → ℕ
 choiceAt b i = byteOf b i 1
 
@@ -77,10 +81,14 @@ unfoldable pub conditionsIn : List ℕ → Forest → Conditions
 conditionsIn b none = noPart
 conditionsIn b (node i kids rest) = part (conditionAt b i (conditionsIn b kids)) (conditionsIn b rest)
 
+-- the condition at record i, with the records below it
+abbrev pub conditionFrom : List ℕ → ℕ → Forest → Condition
+conditionFrom b i kids = conditionAt b i (conditionsIn b kids)
+
 -- the condition among a rule's children
 unfoldable pub whenIn : List ℕ → Forest → When
 whenIn b none = always
-whenIn b (node i kids rest) = if (isKind b i 7) (whenever (conditionAt b i (conditionsIn b kids))) (whenIn b rest)
+whenIn b (node i kids rest) = if (isKind b i 7) (whenever (conditionFrom b i kids)) (whenIn b rest)
 
 -- 1 Permit, 2 Deny
 abbrev pub effectOf : ℕ → Effect
@@ -118,7 +126,7 @@ treeAt b i kids ns =
 unfoldable pub treesIn : List ℕ → Forest → Trees
 treesIn b none = noTree
 treesIn b (node i kids rest) =
-    if (either (isKind b i 1) (isKind b i 2)) (tree (treeAt b i kids (treesIn b kids)) (treesIn b rest)) (treesIn b rest)
+    if (isParty b i) (tree (treeAt b i kids (treesIn b kids)) (treesIn b rest)) (treesIn b rest)
 
 -- the tree of a book: line 1, with all other records below it
 unfoldable pub bookOf : List ℕ → Tree

@@ -13,7 +13,7 @@ use Rattle.record.proofs.Forests.{span-pos, span-le, forest-none, forest-step, 
 use Rattle.meaning.specs.Logic.{andAll, orAll, notOf}
 use Rattle.meaning.specs.Policy.{Conditions, compares, all, any, OverRules, rulesDeny, rulesPermit, rulesFirst}
 use Rattle.meaning.specs.Meaning.{Bags, matchOf, comparisonOf, conditionOf, conditionsOf, each, conjunctionOf, sectionOf, sectionsOf, targetOf, under, decisionOf, whenOf, ruleOf, combine, overRules, ruleChild, ruleChildren}
-use Rattle.meaning.specs.Reading.{matchAt, comparisonAt, rowOf, childrenAt, conjunctionAt, sectionAt, targetIn, notAt, conditionAt, conditionsIn, whenIn, effectOf, ruleAt, rulesIn}
+use Rattle.meaning.specs.Reading.{matchAt, comparisonAt, rowOf, childrenAt, conjunctionAt, sectionAt, targetIn, notAt, conditionAt, conditionFrom, conditionsIn, whenIn, effectOf, ruleAt, rulesIn}
 use Rattle.meaning.specs.declared.Test.{Test}
 use Rattle.meaning.specs.declared.Truth.{Truth}
 use Rattle.meaning.specs.declared.Truth.the-variants.{True, False, Unknown}
@@ -21,10 +21,9 @@ use Rattle.meaning.specs.declared.Effect.{Effect}
 use Rattle.meaning.specs.declared.Decision.{Decision}
 use Rattle.meaning.specs.declared.Decision.the-variants.{NotApplicable, Indeterminate}
 use Rattle.meaning.specs.declared.Algorithm.{Algorithm}
-use Rattle.algorithm.specs.Fold.{start, absorb, settled, result, idle, isOnly}
+use Rattle.algorithm.specs.Fold.{start, absorb, settled, result, isOnly}
 use Rattle.algorithm.specs.declared.Acc.{Acc}
 use Rattle.algorithm.proofs.Walk.{takes, walk, result-right}
-use Rattle.algorithm.proofs.Idle.{idle-keeps, idle-open}
 
 -- the truths of the records of a forest, each read with its children
 unfoldable pub truths : {A : Type 0} → (A → Truth) → (ℕ → Forest → A) → Forest → List Truth
@@ -106,7 +105,7 @@ module _ (b : List ℕ) (i left : ℕ) {s : ℕ} (h : 0 < left) (e : s ≡ spanI
   unfolding truths
   conjunctions-more g et = rw (begins, et)
 
-  pub conditions-more : (g : Bags) {t : Truth} → t ≡ conditionOf g (conditionAt b i (conditionsIn b (forest b (i + 1) (s - 1))))
+  pub conditions-more : (g : Bags) {t : Truth} → t ≡ conditionOf g (conditionFrom b i (forest b (i + 1) (s - 1)))
       → conditionsOf g (conditionsIn b (forest b i left)) ≡ t ∷ conditionsOf g (conditionsIn b (forest b (i + s) (left - s)))
   unfolding conditionsOf conditionsIn
   conditions-more g et = rw (begins, et)
@@ -118,7 +117,7 @@ module _ (b : List ℕ) (i left : ℕ) {s : ℕ} (h : 0 < left) (e : s ≡ spanI
     unfolding sectionsOf targetIn
     sections-more q et = rw (begins, ← ek, q, et)
 
-    pub when-here : {t w : Truth} → k ≡ 7 → t ≡ conditionOf g (conditionAt b i (conditionsIn b (forest b (i + 1) (s - 1))))
+    pub when-here : {t w : Truth} → k ≡ 7 → t ≡ conditionOf g (conditionFrom b i (forest b (i + 1) (s - 1)))
         → whenOf g (whenIn b (forest b i left)) ≡ w → t ≡ w
     unfolding whenOf whenIn
     when-here q et p = rw (begins, ← ek, q, ← et) at p
@@ -135,7 +134,7 @@ sections-over b i left g {k} h ek q = rw (forest-step b i left h, ← ek, ne-eqb
 -- a condition by its choice
 module _ (b : List ℕ) (g : Bags) (i s : ℕ) {k : ℕ} (e : k ≡ byteOf b i 1) where
   pub is-joined : (k ≡ 0 → ⊥) → k ≤ 3 → (k ≡ 3 → ⊥)
-      → (let ts = conditionsOf g (conditionsIn b (forest b (i + 1) (s - 1))) in if (eqb k 1) (andAll ts) (orAll ts)) ≡ conditionOf g (conditionAt b i (conditionsIn b (forest b (i + 1) (s - 1))))
+      → (let ts = conditionsOf g (conditionsIn b (forest b (i + 1) (s - 1))) in if (eqb k 1) (andAll ts) (orAll ts)) ≡ conditionOf g (conditionFrom b i (forest b (i + 1) (s - 1)))
   unfolding conditionOf conditionAt
   is-joined z h r = rw (← e) (on (eqb k 1) refl)
     where
@@ -147,18 +146,18 @@ module _ (b : List ℕ) (g : Bags) (i s : ℕ) {k : ℕ} (e : k ≡ byteOf b i 1
       on false q = let p : k ≡ 2 = omega (arith, eqb-false k 1 q) in rw p
 
   pub is-comparison : {t : Truth} → (k ≡ 1 → ⊥) → (k ≡ 2 → ⊥) → (k ≡ 3 → ⊥) → t ≡ comparisonOf g (comparisonAt b i)
-      → t ≡ conditionOf g (conditionAt b i (conditionsIn b (forest b (i + 1) (s - 1))))
+      → t ≡ conditionOf g (conditionFrom b i (forest b (i + 1) (s - 1)))
   unfolding conditionOf conditionAt
   is-comparison p q r et = rw (← e, ne-eqb k 1 p, ne-eqb k 2 q, ne-eqb k 3 r) et
 
   pub not-none : {t : Truth} → k ≡ 3 → s ≡ 1 → t ≡ comparisonOf g (comparisonAt b i)
-      → t ≡ conditionOf g (conditionAt b i (conditionsIn b (forest b (i + 1) (s - 1))))
+      → t ≡ conditionOf g (conditionFrom b i (forest b (i + 1) (s - 1)))
   unfolding conditionOf conditionAt conditionsIn
   not-none q h et = rw (forest-none b (i + 1) (s - 1) (omega arith), ← e, q) et
 
   pub not-more : {n : ℕ} {t u : Truth} → k ≡ 3 → 0 < s → (s ≡ 1 → ⊥) → n ≡ spanIn b (i + 1) (s - 1)
-      → t ≡ conditionOf g (conditionAt b (i + 1) (conditionsIn b (forest b (i + 1 + 1) (n - 1)))) → u ≡ notOf t
-      → u ≡ conditionOf g (conditionAt b i (conditionsIn b (forest b (i + 1) (s - 1))))
+      → t ≡ conditionOf g (conditionFrom b (i + 1) (forest b (i + 1 + 1) (n - 1))) → u ≡ notOf t
+      → u ≡ conditionOf g (conditionFrom b i (forest b (i + 1) (s - 1)))
   unfolding conditionOf conditionAt conditionsIn
   not-more q z h en et eu = rw (begins b (i + 1) (s - 1) (omega arith) en, ← e, q, ← et) eu
 
@@ -206,25 +205,11 @@ takes-rule : (b : List ℕ) (g : Bags) (i : ℕ) (kids : Forest) (a : Algorithm)
 unfolding ruleChild ruleAt
 takes-rule b g i kids a acc o ec ef ed en = rw (o, en, ed, ef, ec)
 
-idle-rule : (b : List ℕ) (g : Bags) (i : ℕ) (kids : Forest) (a : Algorithm) (acc : Acc) {c : ℕ} {f : Effect} → c ≡ byteOf b i 1 → f ≡ effectOf c → idle a acc f ≡ true
-    → acc ≡ absorb a acc f (ruleOf g (ruleAt b i kids))
-unfolding ruleOf ruleAt
-idle-rule b g i kids a acc {c} {f} ec ef h =
-    rw (← ec, ← ef) (sym (idle-keeps a acc f (targetOf g (targetIn b kids)) (whenOf g (whenIn b kids)) h))
-
 module _ (b : List ℕ) (g : Bags) (i left : ℕ) (a : Algorithm) (acc : Acc) {s k : ℕ} {w : Decision}
     (some : 0 < left) (e : s ≡ spanIn b i left) (ek : k ≡ byteOf b i 0) (p : ruled b g a acc (forest b i left) ≡ w) where
   pub rules-skip : (k ≡ 3 → ⊥) → ruled b g a acc (forest b (i + s) (left - s)) ≡ w
   unfolding ruled rulesIn
   rules-skip q = rw (begins b i left some e, ← ek, ne-eqb k 3 q) at p
-
-  -- a rule that is idle
-  pub rules-idle : {c : ℕ} {f : Effect} {t : Bool} → k ≡ 3 → isOnly a ≡ false → c ≡ byteOf b i 1 → f ≡ effectOf c → t ≡ idle a acc f → t ≡ true
-      → ruled b g a acc (forest b (i + s) (left - s)) ≡ w
-  unfolding ruled rulesIn ruleChildren walk
-  rules-idle {f = f} q o ec ef et z =
-      let h : idle a acc f ≡ true = sym et ∙ z in
-      rw (begins b i left some e, ← ek, q, takes-rule b g i (forest b (i + 1) (s - 1)) a acc o ec ef refl (idle-rule b g i (forest b (i + 1) (s - 1)) a acc ec ef h), idle-open a acc f h) at p
 
   module _ {c : ℕ} {f : Effect} {d : Decision} {next : Acc} {t : Bool} (q : k ≡ 3) (o : isOnly a ≡ false) (ec : c ≡ byteOf b i 1) (ef : f ≡ effectOf c)
       (ed : d ≡ ruleOf g (ruleAt b i (forest b (i + 1) (s - 1)))) (en : next ≡ absorb a acc f d) (et : t ≡ settled a next) where

@@ -12,7 +12,7 @@ ghost use Rattle.record.specs.Choose.{if};
 ghost use Rattle.record.specs.Forest.{forest};
 ghost use Rattle.meaning.specs.Logic.{isTrue, isFalse, andOf, orOf};
 ghost use Rattle.meaning.specs.Meaning.{conjunctionOf, sectionOf, targetOf, comparisonOf, conditionOf, under, decisionOf, whenOf, ruleOf, overRules, combine, ruleChildren};
-ghost use Rattle.meaning.specs.Reading.{keyAt, testAt, matchAt, comparisonAt, conjunctionAt, sectionAt, targetIn, conditionAt, conditionsIn, whenIn, effectOf, ruleAt, rulesIn, rulesBy, bagsOf};
+ghost use Rattle.meaning.specs.Reading.{keyAt, testAt, matchAt, comparisonAt, conjunctionAt, sectionAt, targetIn, conditionFrom, conditionsIn, whenIn, effectOf, ruleAt, rulesIn, rulesBy, bagsOf};
 
 // The key of the match or comparison at record i: bytes 4 to 7, without must-be-present.
 fn key_at(book: &[u8], i: usize) -> u32
@@ -187,7 +187,7 @@ fn is_sure(all: bool, t: Truth) -> bool
 // The condition at record i: 1 and, 2 or, 3 not, else a comparison. It calls itself on its parts, and the span falls at each call.
 pub fn condition(book: &[u8], request: &[u8], i: usize, s: usize) -> Truth
     requires { ⌜ (0 < s) × ((i + s) * 16 ≤ length (now book)) ⌝ }
-    ensures { λ r. ⌜ r ≡ conditionOf (bagsOf (now (request .entry))) (conditionAt (now (book .entry)) i (conditionsIn (now (book .entry)) (forest (now (book .entry)) (i + 1) (s - 1)))) ⌝ }
+    ensures { λ r. ⌜ r ≡ conditionOf (bagsOf (now (request .entry))) (conditionFrom (now (book .entry)) i (forest (now (book .entry)) (i + 1) (s - 1))) ⌝ }
 {
     let choice = record::byte(book, i, 1);
     if choice == 3 {
@@ -286,25 +286,12 @@ fn rule(book: &[u8], request: &[u8], i: usize, s: usize) -> Decision
     }
 }
 
-// The algorithm over rules that a policy chooses.
-fn over_rules(choice: usize) -> Algorithm
-    ensures { λ r. ⌜ r ≡ overRules (rulesBy choice) ⌝ }
-{
-    if choice == 1 {
-        return Algorithm::RulesDeny;
-    }
-    if choice == 2 {
-        return Algorithm::RulesPermit;
-    }
-    Algorithm::First
-}
-
 // What the rules among these children decide.
 pub fn rules(book: &[u8], request: &[u8], from: usize, count: usize, choice: usize) -> Decision
     requires { ⌜ (from + count) * 16 ≤ length (now book) ⌝ }
     ensures { λ r. ⌜ r ≡ combine (overRules (rulesBy choice)) (ruleChildren (bagsOf (now (request .entry))) (rulesIn (now (book .entry)) (forest (now (book .entry)) from count))) ⌝ }
 {
-    let a = over_rules(choice);
+    let a = meaning::over_rules(choice);
     let mut i = from;
     let mut left = count;
     let mut acc = algorithm::begin(a);
@@ -317,11 +304,6 @@ pub fn rules(book: &[u8], request: &[u8], from: usize, count: usize, choice: usi
             continue;
         }
         let e = effect_of(record::byte(book, i, 1));
-        if algorithm::idles(a, acc, e) {
-            i += s;
-            left -= s;
-            continue;
-        }
         let d = rule(book, request, i, s);
         acc = algorithm::take_in(a, acc, e, d);
         if algorithm::settles(a, acc) {

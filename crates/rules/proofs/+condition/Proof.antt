@@ -2,7 +2,7 @@ use mathlib.Core.Path.{_≡_, _∙_}
 use Prim.Native.Nat.{_+_, _-_}
 use Rattle.record.specs.Forest.{forest}
 use Rattle.meaning.specs.Meaning.{conditionOf, conditionsOf}
-use Rattle.meaning.specs.Reading.{conditionAt, conditionsIn, bagsOf}
+use Rattle.meaning.specs.Reading.{conditionFrom, conditionsIn, bagsOf}
 use Rattle.rules.proofs.Loops.{joinThen, join-none, join-turn, join-stop, join-end}
 use Rattle.rules.proofs.Laws.{conditions-more, conditions-none, is-joined, is-comparison, not-none, not-more}
 use native.Mathlib.Omega.{arith}
@@ -37,7 +37,7 @@ condition-below t =
 abbrev condition-Inv-loop : condition-lts.InvT-loop
 condition-Inv-loop book request i s choice all at₀ left₀ acc₀ at left acc =
     (at + left ≡ i + s) × (left < s)
-    × (joinThen all acc (conditionsOf (bagsOf request) (conditionsIn book (forest book at left))) ≡ conditionOf (bagsOf request) (conditionAt book i (conditionsIn book (forest book (i + 1) (s - 1)))))
+    × (joinThen all acc (conditionsOf (bagsOf request) (conditionsIn book (forest book at left))) ≡ conditionOf (bagsOf request) (conditionFrom book i (forest book (i + 1) (s - 1))))
 
 abbrev condition-μ-loop : condition-lts.MeasureT-loop
 condition-μ-loop book request i s choice all at₀ left₀ acc₀ at left acc = left

@@ -5,7 +5,7 @@ use Prim.Native.Nat.{_+_, _≤_}
 use Rattle.record.specs.Forest.{forest}
 use Rattle.meaning.specs.Meaning.{overRules, combine, ruleChildren}
 use Rattle.meaning.specs.Reading.{rulesBy, rulesIn, bagsOf}
-use Rattle.rules.proofs.Laws.{ruled, rules-all, rules-end, not-only, rules-skip, rules-idle, rules-stop, rules-turn}
+use Rattle.rules.proofs.Laws.{ruled, rules-all, rules-end, not-only, rules-skip, rules-stop, rules-turn}
 use Rattle.rules.proofs.rules.Statement.{statement}
 use Rattle.rules.proofs.rules.Tie as tie
 
@@ -23,14 +23,28 @@ loop-holds c = (refl, omega arith, rules-all _ _ _ _ (rulesBy (c .before .before
 loop-again : tie.Need-loop-again Inv-loop μ-loop
 loop-again c = (omega arith, omega arith, rules-skip _ _ _ _ _ _ (c .before .before .before .loop-test .taken) (c .before .before .span-in .ensures .0) (c .before .byte .ensures .0) (c .before .before .before .before .loop .inv .2) (c .if1 .taken))
 
-loop-again-2 : tie.Need-loop-again-2 Inv-loop μ-loop
-loop-again-2 c = (omega arith, omega arith, rules-idle _ _ _ _ _ _ (c .before .before .before .before .before .before .before .loop-test .taken) (c .before .before .before .before .before .before .span-in .ensures .0) (c .before .before .before .before .before .byte .ensures .0) (c .before .before .before .before .before .before .before .before .loop .inv .2) (c .before .before .before .before .if1 .left) (not-only _ (rulesBy (c .before .before .before .before .before .before .before .before .before .before .before .before .before .args .choice)) (c .before .before .before .before .before .before .before .before .before .before .over-rules .ensures)) (c .before .before .before .byte2 .ensures .0) (c .before .before .effect-of .ensures) (c .before .idles .ensures) (c .if2 .taken))
-
 returns : tie.Need-returns Inv-loop μ-loop
-returns c = rules-stop _ _ _ _ _ _ (c .before .before .before .before .before .before .before .before .before .before .before .before .loop-test .taken) (c .before .before .before .before .before .before .before .before .before .before .before .span-in .ensures .0) (c .before .before .before .before .before .before .before .before .before .before .byte .ensures .0) (c .before .before .before .before .before .before .before .before .before .before .before .before .before .loop .inv .2) (c .before .before .before .before .before .before .before .before .before .if1 .left) (not-only _ (rulesBy (c .before .before .before .before .before .before .before .before .before .before .before .before .before .before .before .before .before .before .args .choice)) (c .before .before .before .before .before .before .before .before .before .before .before .before .before .before .before .over-rules .ensures)) (c .before .before .before .before .before .before .before .before .byte2 .ensures .0) (c .before .before .before .before .before .before .before .effect-of .ensures) (c .before .before .before .before .rule .ensures) (c .before .before .before .take-in .ensures) (c .before .before .settles .ensures) (c .before .if3 .taken) (c .outcome .ensures)
+returns c =
+    let rule = c .before .before .before .before in
+    let kind = rule .before .before .before .before in
+    let turn = kind .before .before .before in
+    let start = turn .before .before .before .before .before in
+    rules-stop _ _ _ _ _ _ (kind .before .before .loop-test .taken) (kind .before .span-in .ensures .0) (kind .byte .ensures .0) (turn .loop .inv .2) (rule .before .before .before .if1 .left)
+    (not-only _ (rulesBy (start .args .choice)) (turn .before .before .over-rules .ensures)) (rule .before .before .byte2 .ensures .0) (rule .before .effect-of .ensures) (rule .rule .ensures)
+    (c .before .before .before .take-in .ensures) (c .before .before .settles .ensures) (c .before .if2 .taken) (c .outcome .ensures)
 
-loop-again-3 : tie.Need-loop-again-3 Inv-loop μ-loop
-loop-again-3 c = (omega arith, omega arith, rules-turn _ _ _ _ _ _ (c .before .before .before .before .before .before .before .before .before .before .before .loop-test .taken) (c .before .before .before .before .before .before .before .before .before .before .span-in .ensures .0) (c .before .before .before .before .before .before .before .before .before .byte .ensures .0) (c .before .before .before .before .before .before .before .before .before .before .before .before .loop .inv .2) (c .before .before .before .before .before .before .before .before .if1 .left) (not-only _ (rulesBy (c .before .before .before .before .before .before .before .before .before .before .before .before .before .before .before .before .before .args .choice)) (c .before .before .before .before .before .before .before .before .before .before .before .before .before .before .over-rules .ensures)) (c .before .before .before .before .before .before .before .byte2 .ensures .0) (c .before .before .before .before .before .before .effect-of .ensures) (c .before .before .before .rule .ensures) (c .before .before .take-in .ensures) (c .before .settles .ensures) (c .if3 .left))
+loop-again-2 : tie.Need-loop-again-2 Inv-loop μ-loop
+loop-again-2 c =
+    let rule = c .before .before .before in
+    let kind = rule .before .before .before .before in
+    let turn = kind .before .before .before in
+    let start = turn .before .before .before .before .before in (
+      omega arith,
+      omega arith,
+      rules-turn _ _ _ _ _ _ (kind .before .before .loop-test .taken) (kind .before .span-in .ensures .0) (kind .byte .ensures .0) (turn .loop .inv .2) (rule .before .before .before .if1 .left)
+          (not-only _ (rulesBy (start .args .choice)) (turn .before .before .over-rules .ensures)) (rule .before .before .byte2 .ensures .0) (rule .before .effect-of .ensures) (rule .rule .ensures)
+          (c .before .before .take-in .ensures) (c .before .settles .ensures) (c .if2 .left),
+    )
 
 returns-2 : tie.Need-returns-2 Inv-loop μ-loop
 returns-2 c = rules-end _ _ _ _ _ _ (c .before .loop-test .left) (c .outcome2 .ensures) (c .before .before .loop .inv .2)
@@ -53,11 +67,6 @@ rules-spec =
     (λ c κs. search needs)
     (λ c κs. search needs)
     (λ c κs. search needs)
-    (λ c. search needs)
-    (λ c. search needs)
-    (λ c. search needs)
-    loop-again-2
-    (λ c κs. search needs)
     (λ c κs. search needs)
     (λ c κs. search needs)
     (λ c κs. search needs)
@@ -65,6 +74,6 @@ rules-spec =
     (λ c. search needs)
     (λ c. search needs)
     (λ c. search needs)
-    loop-again-3
+    loop-again-2
     (λ c κs. search needs)
     returns-2)

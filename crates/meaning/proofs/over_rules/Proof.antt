@@ -1,6 +1,6 @@
 use borrow.Author.Tests.{ne-eqb}
-use Rattle.rules.proofs.over_rules.Statement.{statement}
-use Rattle.rules.proofs.over_rules.Tie as tie
+use Rattle.meaning.proofs.over_rules.Statement.{statement}
+use Rattle.meaning.proofs.over_rules.Tie as tie
 
 returns : tie.Need-returns
 returns c = rw (c .if1 .taken)

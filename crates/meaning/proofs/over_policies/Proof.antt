@@ -1,6 +1,6 @@
 use borrow.Author.Tests.{ne-eqb}
-use Rattle.decider.proofs.over_policies.Statement.{statement}
-use Rattle.decider.proofs.over_policies.Tie as tie
+use Rattle.meaning.proofs.over_policies.Statement.{statement}
+use Rattle.meaning.proofs.over_policies.Tie as tie
 
 returns : tie.Need-returns
 returns c = rw (c .if1 .taken)

@@ -1,7 +1,7 @@
 use borrow.Author.Needs.{needs}
 use borrow.Author.Tests.{ne-eqb}
-use Rattle.decider.proofs.is_party.Statement.{statement}
-use Rattle.decider.proofs.is_party.Tie as tie
+use Rattle.meaning.proofs.is_party.Statement.{statement}
+use Rattle.meaning.proofs.is_party.Tie as tie
 
 returns : tie.Need-returns
 returns c = rw (← c .before .byte .ensures .0, c .if1 .taken)
