@@ -1,15 +1,12 @@
 #include "plain.h"
 #include "plain_bytes.h"
 
-/* A copy of this file built with -DCOUNTED counts the records that it looks at while it decides. The copy stops early
- * and does no more; the other one also passes over rules that can change nothing, as Bachumoi does. */
+/* A copy of this file built with -DCOUNTED counts the records that it looks at while it decides. */
 #ifdef COUNTED
 uint64_t looked;
 #define LOOK() (looked++)
-enum { PASS_OVER = 0 };
 #else
 #define LOOK() ((void)0)
-enum { PASS_OVER = 1 };
 #endif
 
 /* ---- Judging a book ---------------------------------------------------------------------------------------- */
@@ -316,8 +313,6 @@ static unsigned over_rules(const struct call *call, unsigned algorithm, const ui
     unsigned wins = algorithm == DENY_OVERRIDES ? DENY : PERMIT;
     bool feared = false, other = false, unsure = false;
     for (; child != end && *child == RULE; child = after(child)) {
-        if (PASS_OVER && algorithm != FIRST_APPLICABLE && (feared || other) && child[1] != wins)
-            continue;
         unsigned answer = rule(call, child);
         if (answer == NOT_APPLICABLE)
             continue;
