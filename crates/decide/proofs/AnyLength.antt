@@ -1,12 +1,13 @@
 -- A text of any length is judged by the bytes that are read: `specs/Decide.antt`'s claim. Assumes nothing.
 use mathlib.Core.Path.{_≡_, refl}
 use mathlib.Core.List.{List}
-use Prim.Native.Nat.{ℕ, _*_, _<_, zero-le}
+use Prim.Native.Nat.{ℕ, _*_, _<_, zero-le, _+_}
 use native.Mathlib.Omega.{arith}
 use lib.ListN.{take}
 use lib.Seq.{take-all}
+use Rattle.record.specs.Bytes.{size, mostRecords, mostEntries}
 use Rattle.text.specs.Table.{tab}
-use Rattle.text.specs.Text.{book, request, readOf, byteAt}
+use Rattle.text.specs.Text.{book, request, readOf, byteAt, lineLength}
 use Rattle.text.specs.declared.Kind.{Kind}
 use Rattle.text.specs.declared.Filled.{Filled}
 use Rattle.text.specs.declared.Filled.the-variants as read
@@ -16,25 +17,25 @@ use Rattle.text.proofs.FirstBytes.{first-bytes}
 use Rattle.decide.specs.Decide.{afterRequest, afterBook, printed, AnyLength}
 
 -- a text that is read has no more bytes than there may be lines
-read-whole : (k : Kind) (text : List ℕ) (room m bytes : ℕ) → 33 * k .most < bytes → readOf k text room ≡ read.Places m → take bytes text ≡ text
+read-whole : (k : Kind) (text : List ℕ) (room m bytes : ℕ) → lineLength * k .most < bytes → readOf k text room ≡ read.Places m → take bytes text ≡ text
 read-whole k text room m bytes h e =
     let w = was-read k text room m e in
     let l = judge-lined text (k .most) 0 (w .n) zero-le (w .judged) in
     take-all bytes text (omega (arith, l .long, l .few))
 
-request-cut : (b text : List ℕ) (a : Filled) → readOf request text 1024 ≡ a → afterRequest a b (take 2113 text) ≡ afterRequest a b text
+request-cut : (b text : List ℕ) (a : Filled) → readOf request text (size * mostEntries) ≡ a → afterRequest a b (take (lineLength * mostEntries + 1) text) ≡ afterRequest a b text
 unfolding afterRequest
-request-cut b text (read.Places m) e = rw (read-whole request text 1024 m 2113 (omega arith) e)
+request-cut b text (read.Places m) e = rw (read-whole request text (size * mostEntries) m (lineLength * mostEntries + 1) (omega arith) e)
 request-cut b text (read.Refused r) e = refl
 
-request-any : (b text : List ℕ) → afterRequest (readOf request (take 2113 text) 1024) b (take 2113 text) ≡ afterRequest (readOf request text 1024) b text
-request-any b text = rw (first-bytes request text 1024 2113 (omega arith)) (request-cut b text (readOf request text 1024) refl)
+request-any : (b text : List ℕ) → afterRequest (readOf request (take (lineLength * mostEntries + 1) text) (size * mostEntries)) b (take (lineLength * mostEntries + 1) text) ≡ afterRequest (readOf request text (size * mostEntries)) b text
+request-any b text = rw (first-bytes request text (size * mostEntries) (lineLength * mostEntries + 1) (omega arith)) (request-cut b text (readOf request text (size * mostEntries)) refl)
 
-book-cut : (text asked : List ℕ) (a : Filled) → readOf book text 16000 ≡ a → afterBook a (take 33001 text) (take 2113 asked) ≡ afterBook a text asked
+book-cut : (text asked : List ℕ) (a : Filled) → readOf book text (size * mostRecords) ≡ a → afterBook a (take (lineLength * mostRecords + 1) text) (take (lineLength * mostEntries + 1) asked) ≡ afterBook a text asked
 unfolding afterBook
-book-cut text asked (read.Places n) e = rw (read-whole book text 16000 n 33001 (omega arith) e) (request-any (tab (byteAt text) n) asked)
+book-cut text asked (read.Places n) e = rw (read-whole book text (size * mostRecords) n (lineLength * mostRecords + 1) (omega arith) e) (request-any (tab (byteAt text) n) asked)
 book-cut text asked (read.Refused r) e = refl
 
 pub any-length : AnyLength
 unfolding printed
-any-length text asked = rw (first-bytes book text 16000 33001 (omega arith)) (book-cut text asked (readOf book text 16000) refl)
+any-length text asked = rw (first-bytes book text (size * mostRecords) (lineLength * mostRecords + 1) (omega arith)) (book-cut text asked (readOf book text (size * mostRecords)) refl)

@@ -1,16 +1,17 @@
 -- The printed line, found first in the output. Assumes nothing.
 use mathlib.Core.Path.{_≡_, sym, ap, _∙_}
 use mathlib.Core.List.{List}
-use Prim.Native.Nat.{ℕ, _≤_}
+use Prim.Native.Nat.{ℕ, _≤_, _*_}
 use native.Mathlib.Omega.{arith}
 use lib.ListN.{length, take, length-take}
+use Rattle.record.specs.Bytes.{size, mostRecords, mostEntries}
 use Rattle.record.specs.declared.Refusal.{Refusal}
 use Rattle.text.specs.Table.{tab}
 use Rattle.text.specs.Text.{book, request, readOf, byteAt, outputAfter}
 use Rattle.text.specs.declared.Filled.{Filled}
 use Rattle.text.specs.declared.Filled.the-variants as read
 use Rattle.text.proofs.Accepted.{filled-first}
-use Rattle.line.specs.Line.{decisionLine, refusalLine, placesOf, put}
+use Rattle.line.specs.Line.{decisionLine, refusalLine, placesOf, put, longest}
 use Rattle.line.proofs.Laws.{length-refusal, length-decision, put-found, places-fits}
 use Rattle.meaning.specs.Numbers.{numberOf}
 use Rattle.meaning.specs.declared.Decision.{Decision}
@@ -29,13 +30,13 @@ stands line l later n h p q =
     let e : take n later ≡ line = rw (p, q) (put-found line l h) in
     (omega (arith, length-take n later, ap length e, places-fits line (length l) h), e)
 
-pub refusal-stands : (r : Refusal) (l : List ℕ) {line later : List ℕ} {n : ℕ} → 4007 ≤ length l → n ≡ placesOf (refusalLine r) (length l) → later ≡ put (refusalLine r) l
+pub refusal-stands : (r : Refusal) (l : List ℕ) {line later : List ℕ} {n : ℕ} → longest ≤ length l → n ≡ placesOf (refusalLine r) (length l) → later ≡ put (refusalLine r) l
     → refusalLine r ≡ line → Stands line later n
 refusal-stands r l {line} {later} {n} h p q e = rw (← e) (stands (refusalLine r) l later n (omega (arith, length-refusal r)) p q)
 
 -- what was decided, and its line
 module _ (b q places : List ℕ) {a : Outcome} {after : List ℕ}
-    (room : length places ≡ 1000) (outcome : a ≡ outcomeOf b q (length places)) (left : after ≡ outOf b q places) where
+    (room : length places ≡ mostRecords) (outcome : a ≡ outcomeOf b q (length places)) (left : after ≡ outOf b q places) where
   line-is : {x : Outcome} → a ≡ x → decidedLine b q ≡ outcomeLine x (dutiesOf b q)
   unfolding decidedLine
   line-is e = ap (λ (x : Outcome). outcomeLine x (dutiesOf b q)) (ap (outcomeOf b q) (sym room) ∙ sym outcome ∙ e)
@@ -43,16 +44,16 @@ module _ (b q places : List ℕ) {a : Outcome} {after : List ℕ}
   pub decided-refused : (r : Refusal) → a ≡ Refused r → refusalLine r ≡ decidedLine b q
   decided-refused r e = sym (line-is e)
 
-  pub decided-stands : (d : Decision) (n : ℕ) (l : List ℕ) {x m : ℕ} {later : List ℕ} → a ≡ Decided d n → x ≡ numberOf d → length after ≡ length places → 4007 ≤ length l
+  pub decided-stands : (d : Decision) (n : ℕ) (l : List ℕ) {x m : ℕ} {later : List ℕ} → a ≡ Decided d n → x ≡ numberOf d → length after ≡ length places → longest ≤ length l
       → m ≡ placesOf (decisionLine x (take n after)) (length l) → later ≡ put (decisionLine x (take n after)) l → Stands (decidedLine b q) later m
   decided-stands d n l {x} {m} {later} e number kept h p w =
       let puts = decided-puts b q places outcome e left kept in
-      let few : length (dutiesOf b q) ≤ 1000 = omega (arith, length-take n after, ap length (puts .1)) in
+      let few : length (dutiesOf b q) ≤ mostRecords = omega (arith, length-take n after, ap length (puts .1)) in
       rw (line-is e)
       (stands (decisionLine (numberOf d) (dutiesOf b q)) l later m (omega (arith, length-decision (numberOf d) (dutiesOf b q))) (rw (puts .1, number) at p) (rw (puts .1, number) at w))
 
 -- what is printed, by what was read
-module _ (text asked records entries : List ℕ) {a : Filled} (long : length records ≡ 16000) (book-read : a ≡ readOf book text (length records)) where
+module _ (text asked records entries : List ℕ) {a : Filled} (long : length records ≡ (size * mostRecords)) (book-read : a ≡ readOf book text (length records)) where
   after-book : {x : Filled} → a ≡ x → printed text asked ≡ afterBook x text asked
   unfolding printed
   after-book e = ap (λ (x : Filled). afterBook x text asked) (ap (readOf book text) (sym long) ∙ sym book-read ∙ e)
@@ -62,7 +63,7 @@ module _ (text asked records entries : List ℕ) {a : Filled} (long : length rec
   printed-book r e = sym (after-book e)
 
   module _ (n : ℕ) {d : Filled} {later : List ℕ} (book-is : a ≡ read.Places n) (book-left : later ≡ outputAfter (byteAt text) a records)
-      (short : length entries ≡ 1024) (request-read : d ≡ readOf request asked (length entries)) where
+      (short : length entries ≡ (size * mostEntries)) (request-read : d ≡ readOf request asked (length entries)) where
     after-request : {x : Filled} → d ≡ x → printed text asked ≡ afterRequest x (tab (byteAt text) n) asked
     unfolding afterBook
     after-request e = after-book book-is ∙ ap (λ (x : Filled). afterRequest x (tab (byteAt text) n) asked) (ap (readOf request asked) (sym short) ∙ sym request-read ∙ e)

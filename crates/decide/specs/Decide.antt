@@ -37,10 +37,6 @@ afterBook (read.Refused r) bookText requestText = refusalLine r
 unfoldable pub printed : List ℕ → List ℕ → List ℕ
 printed bookText requestText = afterBook (readOf book bookText (size * mostRecords)) bookText requestText
 
--- no line is longer than that of a decision with as many obligations as a book can have records
-abbrev pub longest : ℕ
-longest = 2 + 4 + 4 * mostRecords + 1
-
 -- of a text one byte more is read than as many lines as there may be; what is printed is what the whole text says
 abbrev pub AnyLength : Type 0
 AnyLength = (bookText requestText : List ℕ) → printed (take (lineLength * mostRecords + 1) bookText) (take (lineLength * mostEntries + 1) requestText) ≡ printed bookText requestText

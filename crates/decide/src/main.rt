@@ -7,7 +7,8 @@ ghost use mathlib.Core.Path.{_≡_};
 ghost use Prim.Native.Nat.{_≤_, _*_};
 ghost use lib.ListN.{length, take};
 ghost use Rattle.record.specs.Bytes.{size, mostRecords, mostEntries};
-ghost use Rattle.decide.specs.Decide.{longest, decidedLine, printed};
+ghost use Rattle.line.specs.Line.{longest};
+ghost use Rattle.decide.specs.Decide.{decidedLine, printed};
 
 // Puts the line of what the records decide first into `out`, and answers its length. `places` is for the work.
 fn outcome_line(book: &[u8], request: &[u8], places: &mut [u16], out: &mut [u8]) -> usize
@@ -48,12 +49,12 @@ fn decided(
 
 // One byte more than a book and a request can have is read, so a longer text is refused.
 fn main() {
-    let mut book = [0u8; 33001];
-    let mut request = [0u8; 2113];
-    let mut records = [0u8; 16000];
-    let mut entries = [0u8; 1024];
-    let mut places = [0u16; 1000];
-    let mut out = [0u8; 4007];
+    let mut book = [0u8; text::BOOK_TEXT];
+    let mut request = [0u8; text::REQUEST_TEXT];
+    let mut records = [0u8; record::BOOK];
+    let mut entries = [0u8; record::REQUEST];
+    let mut places = [0u16; record::MOST_RECORDS];
+    let mut out = [0u8; line::LONGEST];
     let n = file::read_book_file(&mut book);
     let m = io::read_full(STDIN_FILENO, &mut request);
     let k = decided(

@@ -8,6 +8,7 @@ use lib.Dec.{ltb}
 use lib.ListN.{length, take, replicate, length-append}
 use lib.Seq.{take-at}
 use borrow.Author.Tests.{lt-ltb, le-ltb, ltb-true, ltb-false}
+use Rattle.record.specs.Bytes.{size, mostRecords}
 use Rattle.record.specs.Choose.{if}
 use Rattle.record.specs.Forest.{forest, height}
 use Rattle.record.specs.Refusals.{noRoom}
@@ -43,11 +44,11 @@ room-all b n h =
     omega (arith, rw e at (count-forest b 1 (n - 1)))
 
 -- the first record, with all others below it, is the book
-book-is : (b : List ℕ) (n : ℕ) → length b ≡ n * 16 → bookOf b ≡ treeFrom b 0 n
+book-is : (b : List ℕ) (n : ℕ) → length b ≡ n * size → bookOf b ≡ treeFrom b 0 n
 unfolding bookOf treeFrom
-book-is b n e = let q : length b / 16 ≡ n = omega arith in rw q
+book-is b n e = let q : length b / size ≡ n = omega arith in rw q
 
-pub answered : (b q : List ℕ) (n : ℕ) {l o f : List ℕ} {room m : ℕ} {d : Decision} → length b ≡ n * 16
+pub answered : (b q : List ℕ) (n : ℕ) {l o f : List ℕ} {room m : ℕ} {d : Decision} → length b ≡ n * size
     → Ruled l 0 (said (childAt b (bagsOf q) 0 n)) (owed (childAt b (bagsOf q) 0 n .target) (childAt b (bagsOf q) 0 n .duties)) room o d m
     → length o ≡ length l → f ≡ take m o ++ replicate (length o - m) 0 → Answered b q l f d m
 unfolding dutiesOf decides obliges childAt
@@ -78,7 +79,7 @@ module _ (b q l : List ℕ) where
 
 -- an accepted book has so many records, so many of them are obligations, and at most 15 levels lie below its first record
 pub accepted-has : (b : List ℕ) {n k : ℕ} {j : Judged} → j ≡ judgeOf b → j ≡ book.Accepted n k
-    → (0 < n) × (length b ≡ n * 16) × (k ≡ obligationsOf b n) × (height (forest b 1 (n - 1)) ≤ 15)
+    → (0 < n) × (length b ≡ n * size) × (k ≡ obligationsOf b n) × (height (forest b 1 (n - 1)) ≤ 15)
 accepted-has b {n} {k} ej e =
     let w = accepted-keeps b n k (sym ej ∙ e) in
     (w .0 .sized .some, w .0 .sized .bytes, w .1, accepted-deep b n k (sym ej ∙ e))
@@ -93,17 +94,17 @@ count-le b (suc n) = go (isKind b n 8) (count-le b n)
     go true h = omega arith
     go false h = omega arith
 
-room-test : (room k : ℕ) → k ≤ 1000 → ltb (min room 1000) k ≡ ltb room k
+room-test : (room k : ℕ) → k ≤ mostRecords → ltb (min room mostRecords) k ≡ ltb room k
 room-test room k h =
     by (ltb room k)
-    (λ t. let l = ltb-true room k t in lt-ltb (min room 1000) k (omega arith) ∙ sym t)
-    (λ t. let l = ltb-false room k t in le-ltb (min room 1000) k (omega arith) ∙ sym t)
+    (λ t. let l = ltb-true room k t in lt-ltb (min room mostRecords) k (omega arith) ∙ sym t)
+    (λ t. let l = ltb-false room k t in le-ltb (min room mostRecords) k (omega arith) ∙ sym t)
 
-pub most-room : (b q : List ℕ) (room : ℕ) → outcomeOf b q (min room 1000) ≡ outcomeOf b q room
+pub most-room : (b q : List ℕ) (room : ℕ) → outcomeOf b q (min room mostRecords) ≡ outcomeOf b q room
 unfolding outcomeOf
 most-room b q room = go (judgeOf b) refl (judgeRequestOf q) (Decided (decides (bagsOf q) (bookOf b)) (length (dutiesOf b q)))
   where
-    go : (j : Judged) → j ≡ judgeOf b → (h : JudgedRequest) (a : Outcome) → inOrder j h (min room 1000) a ≡ inOrder j h room a
+    go : (j : Judged) → j ≡ judgeOf b → (h : JudgedRequest) (a : Outcome) → inOrder j h (min room mostRecords) a ≡ inOrder j h room a
     go (book.Refused r) e h a = refl
     go (book.Accepted n k) e (request.Refused r) a = refl
     go (book.Accepted n k) e (request.Accepted m) a =
@@ -129,31 +130,31 @@ decided-puts b q l {e} {o} {d} {n} eo ed ee el =
     let y : length e ≡ length (dutiesOf b q) + length (replicate {A = ℕ} (length l - length (dutiesOf b q)) 0) = ap length x ∙ length-append (dutiesOf b q) (replicate (length l - length (dutiesOf b q)) 0) in
     (omega (arith, y, c), rw x (take-at (dutiesOf b q) (replicate (length l - length (dutiesOf b q)) 0) n (sym c)))
 
-pub refused-line : (b q : List ℕ) (room : ℕ) {r : Refusal} → outcomeOf b q room ≡ Refused r → r .line ≤ 1000
+pub refused-line : (b q : List ℕ) (room : ℕ) {r : Refusal} → outcomeOf b q room ≡ Refused r → r .line ≤ mostRecords
 unfolding outcomeOf
 refused-line b q room {r} = go (judgeOf b) refl (judgeRequestOf q) refl
   where
-    broken : {s : Refusal} → Breaks b s → s .line ≤ 1000
+    broken : {s : Refusal} → Breaks b s → s .line ≤ mostRecords
     broken (empty e x) = rw e (omega arith)
     broken (cut e x) = rw e (omega arith)
     broken (many e x y) = rw e (omega arith)
     broken (field n i e z w) = rw e (omega (arith, z .most, w .inside))
     broken (place n i e z k w) = rw e (omega (arith, z .most, w .inside))
 
-    asked : {s : Refusal} → BreaksRequest q s → s .line ≤ 1000
+    asked : {s : Refusal} → BreaksRequest q s → s .line ≤ mostRecords
     asked (cut-request e x) = rw e (omega arith)
     asked (many-entries e x y) = rw e (omega arith)
     asked (entry n i e z w) = rw e (omega (arith, z .most, w .inside))
 
-    same : {s t : Refusal} → Refused s ≡ Refused t → s .line ≤ 1000 → t .line ≤ 1000
+    same : {s t : Refusal} → Refused s ≡ Refused t → s .line ≤ mostRecords → t .line ≤ mostRecords
     same {s} {t} e h = let x : s ≡ t = cc in rw (← x) h
 
-    go : (j : Judged) → j ≡ judgeOf b → (h : JudgedRequest) → h ≡ judgeRequestOf q → inOrder j h room (Decided (decides (bagsOf q) (bookOf b)) (length (dutiesOf b q))) ≡ Refused r → r .line ≤ 1000
+    go : (j : Judged) → j ≡ judgeOf b → (h : JudgedRequest) → h ≡ judgeRequestOf q → inOrder j h room (Decided (decides (bagsOf q) (bookOf b)) (length (dutiesOf b q))) ≡ Refused r → r .line ≤ mostRecords
     go (book.Refused s) ej h eh e = same e (broken (refused-breaks b s (sym ej)))
     go (book.Accepted n k) ej (request.Refused s) eh e = same e (asked (refused-request-breaks q s (sym eh)))
     go (book.Accepted n k) ej (request.Accepted m) eh e = at (ltb room k) e
       where
-        at : (t : Bool) → if t (Refused noRoom) (Decided (decides (bagsOf q) (bookOf b)) (length (dutiesOf b q))) ≡ Refused r → r .line ≤ 1000
+        at : (t : Bool) → if t (Refused noRoom) (Decided (decides (bagsOf q) (bookOf b)) (length (dutiesOf b q))) ≡ Refused r → r .line ≤ mostRecords
         at true e = same e (omega arith)
         at false e = let z : _≡_ {A = ℕ} 0 1 = cc in absurd (omega arith)
 

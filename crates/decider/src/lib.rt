@@ -10,6 +10,7 @@ ghost use mathlib.Core.Path.{_≡_};
 ghost use mathlib.Core.Bool.{false};
 ghost use Prim.Native.Nat.{_+_, _*_, _-_, _<_, _≤_};
 ghost use lib.ListN.{length};
+ghost use Rattle.record.specs.Bytes.{size};
 ghost use Rattle.record.specs.Forest.{forest, height};
 ghost use Rattle.meaning.specs.Meaning.{is, said, owed, combine, ownOf, binding, overPolicies};
 ghost use Rattle.meaning.specs.Reading.{policiesBy, obligationsIn, bagsOf};
@@ -72,7 +73,7 @@ fn is_only(a: Algorithm) -> bool
 
 // Whether record i is an obligation for d.
 fn is_due(book: &[u8], i: usize, d: Decision) -> bool
-    requires { ⌜ (i + 1) * 16 ≤ length (now book) ⌝ }
+    requires { ⌜ (i + 1) * size ≤ length (now book) ⌝ }
     ensures { λ r. ⌜ r ≡ isDue (now (book .entry)) i d ⌝ }
 {
     let kind = record::byte(book, i, 0);
@@ -88,7 +89,7 @@ fn is_due(book: &[u8], i: usize, d: Decision) -> bool
 
 // Puts the obligations for d that stand among `count` records from `from` on, on top of n places.
 fn put(book: &[u8], from: usize, count: usize, d: Decision, out: &mut [u16], n: usize) -> usize
-    requires { ⌜ ((from + count) * 16 ≤ length (now book)) × (n + directOf (now book) (forest (now book) from count) ≤ length (now out)) ⌝ }
+    requires { ⌜ ((from + count) * size ≤ length (now book)) × (n + directOf (now book) (forest (now book) from count) ≤ length (now out)) ⌝ }
     ensures { λ r. ⌜ Put (now (out .entry)) n (ownOf d (obligationsIn (now (book .entry)) (forest (now (book .entry)) from count)))
         (directOf (now (book .entry)) (forest (now (book .entry)) from count)) (now (out .exit)) r ⌝ }
 {
@@ -113,7 +114,7 @@ fn put(book: &[u8], from: usize, count: usize, d: Decision, out: &mut [u16], n: 
 
 // A record's own obligations, where it decides d.
 fn own(book: &[u8], from: usize, count: usize, d: Decision, out: &mut [u16], n: usize) -> usize
-    requires { ⌜ ((from + count) * 16 ≤ length (now book)) × (n + directOf (now book) (forest (now book) from count) ≤ length (now out)) ⌝ }
+    requires { ⌜ ((from + count) * size ≤ length (now book)) × (n + directOf (now book) (forest (now book) from count) ≤ length (now out)) ⌝ }
     ensures { λ r. ⌜ Put (now (out .entry)) n (binding d (ownOf d (obligationsIn (now (book .entry)) (forest (now (book .entry)) from count))))
         (directOf (now (book .entry)) (forest (now (book .entry)) from count)) (now (out .exit)) r ⌝ }
 {
@@ -151,7 +152,7 @@ fn is_many(p: Pick) -> bool
 
 // The one child whose target matches, among `count` records from `from` on.
 fn choose(book: &[u8], request: &[u8], from: usize, count: usize) -> Pick
-    requires { ⌜ (from + count) * 16 ≤ length (now book) ⌝ }
+    requires { ⌜ (from + count) * size ≤ length (now book) ⌝ }
     ensures { λ r. ⌜ Picked (now (book .entry)) (bagsOf (now (request .entry))) from count r ⌝ }
 {
     let mut i = from;
@@ -185,7 +186,7 @@ fn child(
     out: &mut [u16],
     n: usize,
 ) -> Ruling
-    requires { ⌜ (0 < s) × ((i + s) * 16 ≤ length (now book)) × (n + roomOf (now book) (forest (now book) (i + 1) (s - 1)) ≤ length (now out))
+    requires { ⌜ (0 < s) × ((i + s) * size ≤ length (now book)) × (n + roomOf (now book) (forest (now book) (i + 1) (s - 1)) ≤ length (now out))
         × (height (forest (now book) (i + 1) (s - 1)) ≤ depth) ⌝ }
     ensures { λ r. ⌜ Ruled (now (out .entry)) n (said (childAt (now (book .entry)) (bagsOf (now (request .entry))) i s))
         (owed (childAt (now (book .entry)) (bagsOf (now (request .entry))) i s .target) (childAt (now (book .entry)) (bagsOf (now (request .entry))) i s .duties))
@@ -215,7 +216,7 @@ fn body(
     out: &mut [u16],
     n: usize,
 ) -> Ruling
-    requires { ⌜ (0 < s) × ((i + s) * 16 ≤ length (now book)) × (n + roomOf (now book) (forest (now book) (i + 1) (s - 1)) ≤ length (now out))
+    requires { ⌜ (0 < s) × ((i + s) * size ≤ length (now book)) × (n + roomOf (now book) (forest (now book) (i + 1) (s - 1)) ≤ length (now out))
         × (height (forest (now book) (i + 1) (s - 1)) ≤ depth) ⌝ }
     ensures { λ r. ⌜ Ruled (now (out .entry)) n (childAt (now (book .entry)) (bagsOf (now (request .entry))) i s .body)
         (childAt (now (book .entry)) (bagsOf (now (request .entry))) i s .duties)
@@ -240,7 +241,7 @@ fn gather(
     out: &mut [u16],
     n: usize,
 ) -> Ruling
-    requires { ⌜ (0 < s) × ((i + s) * 16 ≤ length (now book)) × (n + deepOf (now book) (forest (now book) (i + 1) (s - 1)) ≤ length (now out))
+    requires { ⌜ (0 < s) × ((i + s) * size ≤ length (now book)) × (n + deepOf (now book) (forest (now book) (i + 1) (s - 1)) ≤ length (now out))
         × (height (forest (now book) (i + 1) (s - 1)) ≤ depth) ⌝ }
     ensures { λ r. ⌜ Ruled (now (out .entry)) n (childAt (now (book .entry)) (bagsOf (now (request .entry))) i s .body)
         (upAt (now (book .entry)) (bagsOf (now (request .entry))) i s)
@@ -284,7 +285,7 @@ fn walk(
     out: &mut [u16],
     n: usize,
 ) -> Ruling
-    requires { ⌜ ((from + count) * 16 ≤ length (now book)) × (n + deepOf (now book) (forest (now book) from count) ≤ length (now out))
+    requires { ⌜ ((from + count) * size ≤ length (now book)) × (n + deepOf (now book) (forest (now book) from count) ≤ length (now out))
         × (height (forest (now book) from count) ≤ depth) × (isOnly a ≡ false) ⌝ }
     ensures { λ r. ⌜ Ruled (now (out .entry)) n (combine a (childrenIn (now (book .entry)) (bagsOf (now (request .entry))) from count))
         (upOf a (childrenIn (now (book .entry)) (bagsOf (now (request .entry))) from count))
@@ -330,7 +331,7 @@ const MOST_BELOW: usize = 15;
 
 // What the book of so many records decides for a request, with its obligations first in out and zeros after them.
 fn answer(book: &[u8], request: &[u8], records: usize, out: &mut [u16]) -> Ruling
-    requires { ⌜ (0 < records) × (length (now book) ≡ records * 16) × (obligationsOf (now book) records ≤ length (now out))
+    requires { ⌜ (0 < records) × (length (now book) ≡ records * size) × (obligationsOf (now book) records ≤ length (now out))
         × (height (forest (now book) 1 (records - 1)) ≤ 15) ⌝ }
     ensures { λ r. ⌜ Answered (now (book .entry)) (now (request .entry)) (now (out .entry)) (now (out .exit)) (r .decision) (r .count) ⌝ }
 {

@@ -9,6 +9,7 @@ use lib.Dec.{ltb}
 use lib.ListN.{length, take, drop, set, getD, replicate, length-append}
 use lib.Seq.{length-take-le, take-suc, drop-cons, append-snoc, set-at, take-at}
 use borrow.Author.Tests.{lt-ltb, le-ltb, ltb-true, ltb-false}
+use Rattle.record.specs.Bytes.{mostRecords}
 use Rattle.record.specs.declared.Refusal.{Refusal}
 use Rattle.meaning.specs.declared.Decision.{Decision}
 use Rattle.decider.specs.Outcome.{dutiesOf, outcomeOf, outOf}
@@ -53,17 +54,17 @@ pairs-more ps l o k {x} ex h g e =
     (sym (append-assoc (pairsOf (take k ps)) (x / 256 ∷ x % 256 ∷ []) (drop (k * 2 + 2) l)))
 
 -- the answers
-same-outcome : (b q ps l : List ℕ) → length ps ≡ min (length l / 2) 1000 → outcomeOf b q (length ps) ≡ hostOutcome b q l
+same-outcome : (b q ps l : List ℕ) → length ps ≡ min (length l / 2) mostRecords → outcomeOf b q (length ps) ≡ hostOutcome b q l
 unfolding hostOutcome
 same-outcome b q ps l e = rw e (most-room b q (length l / 2))
 
-module _ (b q ps l : List ℕ) {o : Outcome} (room : length ps ≡ min (length l / 2) 1000) (eo : o ≡ outcomeOf b q (length ps)) where
+module _ (b q ps l : List ℕ) {o : Outcome} (room : length ps ≡ min (length l / 2) mostRecords) (eo : o ≡ outcomeOf b q (length ps)) where
   pub host-refused : {r : Refusal} {x : ℕ} → o ≡ Refused r → x ≡ hostNumber (Refused r) → (x ≡ hostNumber (hostOutcome b q l)) × (l ≡ hostOut b q l)
   unfolding hostOut
   host-refused e ex = let w : hostOutcome b q l ≡ Refused _ = sym (same-outcome b q ps l room) ∙ sym eo ∙ e in (rw w ex, rw w)
 
   module _ {e : List ℕ} {d : Decision} {n : ℕ} (ed : o ≡ Decided d n) (ee : e ≡ outOf b q ps) (el : length e ≡ length ps) where
-    pub host-fits : (n ≤ length e) × (n * 2 ≤ length l) × (n ≤ 1000)
+    pub host-fits : (n ≤ length e) × (n * 2 ≤ length l) × (n ≤ mostRecords)
     host-fits = let w = decided-puts b q ps eo ed ee el in (w .0, omega (arith, w .0, el, room), omega (arith, w .0, el, room))
 
     pub host-decided : {f g : List ℕ} {x : ℕ} → f ≡ pairsOf (take n e) ++ drop (n * 2) l → length f ≡ length l → g ≡ take (n * 2) f ++ replicate (length f - n * 2) 0
@@ -78,7 +79,7 @@ module _ (b q ps l : List ℕ) {o : Outcome} (room : length ps ≡ min (length l
         (rw w ex, rw w (eg ∙ rw (h, lf, c)))
 
 -- the places that are lent
-pub places-lent : (z : List ℕ) (r a : ℕ) → 1000 ≡ length z → r ≡ min a 1000 → length (take r z) ≡ r
+pub places-lent : (z : List ℕ) (r a : ℕ) → mostRecords ≡ length z → r ≡ min a mostRecords → length (take r z) ≡ r
 places-lent z r a e h = length-take-le r z (omega arith)
 
 -- too short for n obligations by places is too short by bytes: twice as many are needed

@@ -5,14 +5,15 @@ ghost use mathlib.Core.Path.{_≡_};
 ghost use mathlib.Core.List.{_++_};
 ghost use Prim.Native.Nat.{_+_, _*_, _-_, _/_, _≤_, min};
 ghost use lib.ListN.{length, take, drop, replicate};
+ghost use Rattle.record.specs.Bytes.{mostRecords};
 ghost use Rattle.decider.specs.declared.Outcome.the-variants.{Decided};
 ghost use Rattle.host.specs.Host.{hostNumber, pairsOf, hostOutcome, hostOut};
 
-// No book has more obligation records.
-const MOST: usize = 1000;
+// No book has more obligation records than records.
+const MOST: usize = record::MOST_RECORDS;
 
 fn zeros() -> [u16; MOST]
-    ensures { λ r. ⌜ 1000 ≡ length r ⌝ }
+    ensures { λ r. ⌜ mostRecords ≡ length r ⌝ }
 {
     [0; MOST]
 }
@@ -53,7 +54,7 @@ fn clear(out: &mut [u8], n: usize)
 }
 
 fn decided(d: Decision, n: usize) -> u64
-    requires { ⌜ n ≤ 1000 ⌝ }
+    requires { ⌜ n ≤ mostRecords ⌝ }
     ensures { λ r. ⌜ r ≡ hostNumber (Decided d n) ⌝ }
 {
     meaning::number(d) as u64 + 256 * n as u64
@@ -61,7 +62,7 @@ fn decided(d: Decision, n: usize) -> u64
 
 // Decides in these places: one for each pair of bytes of out, or as many as any book needs.
 fn decide_in(book: &[u8], request: &[u8], places: &mut [u16], out: &mut [u8]) -> u64
-    requires { ⌜ length (now places) ≡ min (length (now out) / 2) 1000 ⌝ }
+    requires { ⌜ length (now places) ≡ min (length (now out) / 2) mostRecords ⌝ }
     ensures { λ r. ⌜ (r ≡ hostNumber (hostOutcome (now (book .entry)) (now (request .entry)) (now (out .entry))))
         × (now (out .exit) ≡ hostOut (now (book .entry)) (now (request .entry)) (now (out .entry))) ⌝ }
 {

@@ -16,11 +16,7 @@ ghost use Rattle.judge.specs.Request.{judgeRequestOf};
 mod grammar;
 mod kept;
 
-// A book has at most so many records, a request so many entries, nesting so many levels.
-const MOST_RECORDS: usize = 1000;
-
-const MOST_ENTRIES: usize = 64;
-
+// Nesting has at most so many levels.
 const MOST_DEPTH: usize = 16;
 
 pub enum Judged {
@@ -309,7 +305,7 @@ pub fn judge_book(book: &[u8]) -> Judged
     if book.len() % record::SIZE != 0 {
         return Judged::Refused(record::cut_short(1));
     }
-    if MOST_RECORDS * record::SIZE < book.len() {
+    if record::MOST_RECORDS * record::SIZE < book.len() {
         return Judged::Refused(record::too_many(1));
     }
     judge_records(book, book.len() / record::SIZE)
@@ -322,7 +318,7 @@ pub fn judge_request(request: &[u8]) -> JudgedRequest
     if request.len() % record::SIZE != 0 {
         return JudgedRequest::Refused(record::cut_short(2));
     }
-    if MOST_ENTRIES * record::SIZE < request.len() {
+    if record::MOST_ENTRIES * record::SIZE < request.len() {
         return JudgedRequest::Refused(record::too_many(2));
     }
     let n = request.len() / record::SIZE;

@@ -1,9 +1,10 @@
 -- The line that a program prints, in capital hexadecimal digits with one LF. Assumes nothing.
-use Prim.Native.Nat.{ℕ, zero, suc, _/_}
+use Prim.Native.Nat.{ℕ, zero, suc, _+_, _*_, _/_}
 use mathlib.Core.List.{List, [], _∷_, _++_}
 use lib.Dec.{leb}
 use lib.ListN.{length, drop}
 use lib.Seq.{sets}
+use Rattle.record.specs.Bytes.{mostRecords}
 use Rattle.record.specs.Choose.{if}
 use Rattle.record.specs.declared.Refusal.{Refusal}
 use Rattle.text.specs.Hex.{letterOf}
@@ -22,6 +23,10 @@ fours (n ∷ ns) = hexOf 4 n ++ fours ns
 -- a decision: its number (2 digits), count (4), each obligation (4)
 unfoldable pub decisionLine : ℕ → List ℕ → List ℕ
 decisionLine decision obligations = hexOf 2 decision ++ hexOf 4 (length obligations) ++ fours obligations ++ (lf ∷ [])
+
+-- none is longer than one with as many obligations as a book can have records
+abbrev pub longest : ℕ
+longest = 2 + 4 + 4 * mostRecords + 1
 
 -- a refusal: FF, number (2), part (2), line (4)
 unfoldable pub refusalLine : Refusal → List ℕ

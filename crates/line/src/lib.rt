@@ -7,6 +7,9 @@ ghost use lib.ListN.{length, take};
 ghost use Rattle.text.specs.Text.{lf};
 ghost use Rattle.line.specs.Line.{hexOf, fours, refusalLine, decisionLine, placesOf, put, stored};
 
+// The longest line: that of a decision with as many obligations as a book can have records.
+pub const LONGEST: usize = 2 + 4 + 4 * record::MOST_RECORDS + 1;
+
 fn two_digits(out: &mut [u8], at: usize, n: usize)
     requires { ⌜ at + 2 ≤ length (now out) ⌝ }
     ensures { λ _. ⌜ now (out .exit) ≡ stored (now (out .entry)) at (hexOf 2 n) ⌝ }

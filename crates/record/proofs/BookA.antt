@@ -1,6 +1,7 @@
 -- Worked book A of document 01 and the request of its printed example, line by line, for what is computed of them. Assumes nothing.
 use mathlib.Core.List.{List, [], _∷_}
 use Prim.Native.Nat.{ℕ, zero, suc, _/_, _%_}
+use Rattle.record.specs.Bytes.{size}
 
 -- the last n bytes of a number, before what follows; the bytes of lines, each given as one number
 unfoldable pub bytes : ℕ → ℕ → List ℕ → List ℕ
@@ -9,7 +10,7 @@ bytes (suc n) x rest = bytes n (x / 256) (x % 256 ∷ rest)
 
 unfoldable pub lines : List ℕ → List ℕ
 lines [] = []
-lines (x ∷ xs) = bytes 16 x (lines xs)
+lines (x ∷ xs) = bytes size x (lines xs)
 
 unfoldable pub bookA : List ℕ
 bookA =

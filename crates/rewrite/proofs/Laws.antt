@@ -1,13 +1,13 @@
 -- A text that is read is written again, in capitals: the round trip, said of what two calls leave in their outputs. Assumes nothing.
 use mathlib.Core.Path.{_≡_, sym, ap, _∙_}
 use mathlib.Core.List.{List, map}
-use Prim.Native.Nat.{ℕ, _≤_, zero-le}
+use Prim.Native.Nat.{ℕ, _≤_, zero-le, _*_}
 use native.Mathlib.Omega.{arith}
 use lib.ListN.{length, take}
 use Rattle.record.specs.declared.Refusal.{Refusal}
 use Rattle.text.specs.Table.{tab}
 use Rattle.text.specs.Text.{book, readOf, writeOf, byteAt, textAt, outputAfter}
-use Rattle.record.specs.Bytes.{Bytes}
+use Rattle.record.specs.Bytes.{Bytes, size, mostRecords}
 use Rattle.text.specs.RoundTrip.{upper}
 use Rattle.text.specs.declared.Filled.{Filled}
 use Rattle.text.specs.declared.Filled.the-variants.{Places, Refused}
@@ -18,7 +18,7 @@ use Rattle.line.specs.Line.{refusalLine}
 use Rattle.rewrite.specs.Rewrite.{printed, printedBy}
 
 -- what a refusal prints
-pub printed-refusal : (s : List ℕ) (room : ℕ) (r : Refusal) {a : Filled} → room ≡ 16000 → a ≡ readOf book s room → a ≡ Refused r → printed s ≡ refusalLine r
+pub printed-refusal : (s : List ℕ) (room : ℕ) (r : Refusal) {a : Filled} → room ≡ size * mostRecords → a ≡ readOf book s room → a ≡ Refused r → printed s ≡ refusalLine r
 unfolding printed printedBy
 printed-refusal s room r e p q = ap (λ (x : Filled). printedBy x s) (ap (readOf book s) (sym e) ∙ sym p ∙ q)
 
@@ -32,7 +32,7 @@ module _ (s records out : List ℕ) (m : ℕ) {a b : Filled} {later : List ℕ}
   again : (writeOf book (tab (byteAt s) m) (length out) ≡ Places (length s)) × (tab (textAt (tab (byteAt s) m)) (length s) ≡ map upper s)
   again =
       let v : WasRead book (length records) _ m = was-read book s (length records) m (sym read ∙ done) in
-      let l : Lined s 1000 0 (v .n) = judge-lined s 1000 0 (v .n) zero-le (v .judged) in
+      let l : Lined s mostRecords 0 (v .n) = judge-lined s mostRecords 0 (v .n) zero-le (v .judged) in
       read-is-written book s (length records) (length out) m bytes (sym read ∙ done) (omega (arith, l .long, l .few))
 
   written : b ≡ Places (length s)
@@ -41,7 +41,7 @@ module _ (s records out : List ℕ) (m : ℕ) {a b : Filled} {later : List ℕ}
   pub never-refused : (r : Refusal) → b ≡ Refused r → ⊥
   never-refused r e = let z : _≡_ {A = ℕ} 0 1 = cc written in omega arith
 
-  pub printed-again : (n : ℕ) {last : List ℕ} → length records ≡ 16000 → last ≡ outputAfter (textAt (take m later)) b out → b ≡ Places n → take n last ≡ printed s
+  pub printed-again : (n : ℕ) {last : List ℕ} → length records ≡ size * mostRecords → last ≡ outputAfter (textAt (take m later)) b out → b ≡ Places n → take n last ≡ printed s
   unfolding printed printedBy
   printed-again n long e p =
       let q : n ≡ length s = cc written in

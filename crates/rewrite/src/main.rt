@@ -24,9 +24,9 @@ fn rewritten(text: &[u8], records: &mut [u8], out: &mut [u8]) -> usize
 
 // One byte more than a book can have is read, so a longer file is refused.
 fn main() {
-    let mut text = [0u8; 33001];
-    let mut records = [0u8; 16000];
-    let mut out = [0u8; 33000];
+    let mut text = [0u8; text::BOOK_TEXT];
+    let mut records = [0u8; record::BOOK];
+    let mut out = [0u8; record::MOST_RECORDS * text::LINE];
     let n = file::read_book_file(&mut text);
     let m = rewritten(&text[..n], &mut records, &mut out);
     io::write_all(STDOUT_FILENO, &out[..m]);

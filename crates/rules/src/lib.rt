@@ -8,6 +8,7 @@ ghost use mathlib.Core.Path.{_≡_};
 ghost use Prim.Native.Nat.{_+_, _*_, _-_, _^_, _<_, _≤_};
 ghost use lib.Dec.{eqb};
 ghost use lib.ListN.{length};
+ghost use Rattle.record.specs.Bytes.{size};
 ghost use Rattle.record.specs.Choose.{if};
 ghost use Rattle.record.specs.Forest.{forest};
 ghost use Rattle.meaning.specs.Logic.{isTrue, isFalse, andOf, orOf};
@@ -16,7 +17,7 @@ ghost use Rattle.meaning.specs.Reading.{keyAt, testAt, matchAt, comparisonAt, c
 
 // The key of the match or comparison at record i: bytes 4 to 7, without must-be-present.
 fn key_at(book: &[u8], i: usize) -> u32
-    requires { ⌜ (i + 1) * 16 ≤ length (now book) ⌝ }
+    requires { ⌜ (i + 1) * size ≤ length (now book) ⌝ }
     ensures { λ r. ⌜ r ≡ keyAt (now (book .entry)) i ⌝ }
 {
     let word = record::big4(book, i * record::SIZE + 4);
@@ -28,7 +29,7 @@ fn key_at(book: &[u8], i: usize) -> u32
 
 // Record i as a test by function f.
 fn test_at(book: &[u8], i: usize, f: usize) -> Test
-    requires { ⌜ (i + 1) * 16 ≤ length (now book) ⌝ }
+    requires { ⌜ (i + 1) * size ≤ length (now book) ⌝ }
     ensures { λ r. ⌜ r ≡ testAt (now (book .entry)) i f ⌝ }
 {
     Test {
@@ -41,7 +42,7 @@ fn test_at(book: &[u8], i: usize, f: usize) -> Test
 
 // The match at record i.
 pub fn match_at(book: &[u8], i: usize) -> Test
-    requires { ⌜ (i + 1) * 16 ≤ length (now book) ⌝ }
+    requires { ⌜ (i + 1) * size ≤ length (now book) ⌝ }
     ensures { λ r. ⌜ r ≡ matchAt (now (book .entry)) i ⌝ }
 {
     let choice = record::byte(book, i, 1);
@@ -60,7 +61,7 @@ fn compares_by(choice: usize) -> usize
 
 // The comparison at record i.
 pub fn comparison_at(book: &[u8], i: usize) -> Test
-    requires { ⌜ (i + 1) * 16 ≤ length (now book) ⌝ }
+    requires { ⌜ (i + 1) * size ≤ length (now book) ⌝ }
     ensures { λ r. ⌜ r ≡ comparisonAt (now (book .entry)) i ⌝ }
 {
     let choice = record::byte(book, i, 1);
@@ -80,7 +81,7 @@ fn children_at(i: usize, s: usize) -> usize
 
 // And over the matches of the conjunction at record i.
 fn conjunction(book: &[u8], request: &[u8], i: usize, s: usize) -> Truth
-    requires { ⌜ (0 < s) × ((i + s) * 16 ≤ length (now book)) ⌝ }
+    requires { ⌜ (0 < s) × ((i + s) * size ≤ length (now book)) ⌝ }
     ensures { λ r. ⌜ r ≡ conjunctionOf (bagsOf (now (request .entry))) (conjunctionAt (now (book .entry)) i (forest (now (book .entry)) (i + 1) (s - 1))) ⌝ }
 {
     let mut at = children_at(i, s);
@@ -101,7 +102,7 @@ fn conjunction(book: &[u8], request: &[u8], i: usize, s: usize) -> Truth
 
 // Or over the conjunctions of the section at record i.
 fn section(book: &[u8], request: &[u8], i: usize, s: usize) -> Truth
-    requires { ⌜ (0 < s) × ((i + s) * 16 ≤ length (now book)) ⌝ }
+    requires { ⌜ (0 < s) × ((i + s) * size ≤ length (now book)) ⌝ }
     ensures { λ r. ⌜ r ≡ sectionOf (bagsOf (now (request .entry))) (sectionAt (now (book .entry)) i (forest (now (book .entry)) (i + 1) (s - 1))) ⌝ }
 {
     let mut at = children_at(i, s);
@@ -122,7 +123,7 @@ fn section(book: &[u8], request: &[u8], i: usize, s: usize) -> Truth
 
 // The target that children begin with.
 pub fn target(book: &[u8], request: &[u8], from: usize, count: usize) -> Truth
-    requires { ⌜ (from + count) * 16 ≤ length (now book) ⌝ }
+    requires { ⌜ (from + count) * size ≤ length (now book) ⌝ }
     ensures { λ r. ⌜ r ≡ targetOf (bagsOf (now (request .entry))) (targetIn (now (book .entry)) (forest (now (book .entry)) from count)) ⌝ }
 {
     let mut i = from;
@@ -147,7 +148,7 @@ pub fn target(book: &[u8], request: &[u8], from: usize, count: usize) -> Truth
 
 // What the request says to the comparison at record i.
 fn compared(book: &[u8], request: &[u8], i: usize) -> Truth
-    requires { ⌜ (i + 1) * 16 ≤ length (now book) ⌝ }
+    requires { ⌜ (i + 1) * size ≤ length (now book) ⌝ }
     ensures { λ r. ⌜ r ≡ comparisonOf (bagsOf (now (request .entry))) (comparisonAt (now (book .entry)) i) ⌝ }
 {
     request::comparison(request, comparison_at(book, i))
@@ -186,7 +187,7 @@ fn is_sure(all: bool, t: Truth) -> bool
 
 // The condition at record i: 1 and, 2 or, 3 not, else a comparison. It calls itself on its parts, and the span falls at each call.
 pub fn condition(book: &[u8], request: &[u8], i: usize, s: usize) -> Truth
-    requires { ⌜ (0 < s) × ((i + s) * 16 ≤ length (now book)) ⌝ }
+    requires { ⌜ (0 < s) × ((i + s) * size ≤ length (now book)) ⌝ }
     ensures { λ r. ⌜ r ≡ conditionOf (bagsOf (now (request .entry))) (conditionFrom (now (book .entry)) i (forest (now (book .entry)) (i + 1) (s - 1))) ⌝ }
 {
     let choice = record::byte(book, i, 1);
@@ -222,7 +223,7 @@ pub fn condition(book: &[u8], request: &[u8], i: usize, s: usize) -> Truth
 
 // The condition among a rule's children; no condition is True.
 fn when(book: &[u8], request: &[u8], from: usize, count: usize) -> Truth
-    requires { ⌜ (from + count) * 16 ≤ length (now book) ⌝ }
+    requires { ⌜ (from + count) * size ≤ length (now book) ⌝ }
     ensures { λ r. ⌜ r ≡ whenOf (bagsOf (now (request .entry))) (whenIn (now (book .entry)) (forest (now (book .entry)) from count)) ⌝ }
 {
     let mut i = from;
@@ -272,7 +273,7 @@ fn judged(t: Truth, d: Decision) -> Decision
 
 // The rule at record i.
 fn rule(book: &[u8], request: &[u8], i: usize, s: usize) -> Decision
-    requires { ⌜ (0 < s) × ((i + s) * 16 ≤ length (now book)) ⌝ }
+    requires { ⌜ (0 < s) × ((i + s) * size ≤ length (now book)) ⌝ }
     ensures { λ r. ⌜ r ≡ ruleOf (bagsOf (now (request .entry))) (ruleAt (now (book .entry)) i (forest (now (book .entry)) (i + 1) (s - 1))) ⌝ }
 {
     let t = target(book, request, i + 1, s - 1);
@@ -288,7 +289,7 @@ fn rule(book: &[u8], request: &[u8], i: usize, s: usize) -> Decision
 
 // What the rules among these children decide.
 pub fn rules(book: &[u8], request: &[u8], from: usize, count: usize, choice: usize) -> Decision
-    requires { ⌜ (from + count) * 16 ≤ length (now book) ⌝ }
+    requires { ⌜ (from + count) * size ≤ length (now book) ⌝ }
     ensures { λ r. ⌜ r ≡ combine (overRules (rulesBy choice)) (ruleChildren (bagsOf (now (request .entry))) (rulesIn (now (book .entry)) (forest (now (book .entry)) from count))) ⌝ }
 {
     let a = meaning::over_rules(choice);

@@ -8,11 +8,12 @@ use borrow.Author.Tests.{ltb-false, ne-eqb}
 use lib.Dec.{ltb}
 use lib.ListN.{length, take}
 use lib.Seq.{take-at}
+use Rattle.record.specs.Bytes.{size}
 use Rattle.record.specs.Choose.{if}
 use Rattle.record.specs.Refusals.{tooMany, noRecord, cutShort, noRoom}
 use Rattle.record.specs.declared.Refusal.{Refusal}
 use Rattle.text.specs.Table.{tab}
-use Rattle.text.specs.Text.{missing, judgeFrom, readOf, readJudged, writeOf, outputAfter}
+use Rattle.text.specs.Text.{missing, judgeFrom, readOf, readJudged, writeOf, outputAfter, lineLength}
 use Rattle.text.specs.declared.Kind.{Kind}
 use Rattle.text.specs.declared.Judged.{Judged}
 use Rattle.text.specs.declared.Judged.the-variants.{Lines, Wrong, Over}
@@ -24,28 +25,28 @@ no-places : (r : Refusal) (m : ℕ) → Refused r ≡ Places m → ⊥
 no-places r m e = let z : _≡_ {A = ℕ} 0 1 = cc in omega arith
 
 -- lines or bytes, there is nothing or there is something
-pub missing-lines : (k : Kind) (n : ℕ) → missing k (16 * n) ≡ missing k n
+pub missing-lines : (k : Kind) (n : ℕ) → missing k (size * n) ≡ missing k n
 missing-lines k zero = refl
-missing-lines k (suc n) = ap (λ (b : Bool). if (k .empty) false b) (ne-eqb (16 * suc n) 0 (omega arith) ∙ sym (ne-eqb (suc n) 0 (omega arith)))
+missing-lines k (suc n) = ap (λ (b : Bool). if (k .empty) false b) (ne-eqb (size * suc n) 0 (omega arith) ∙ sym (ne-eqb (suc n) 0 (omega arith)))
 
 pub record WasRead (k : Kind) (room : ℕ) (j : Judged) (m : ℕ) : Type 0 where
   pub n : ℕ
   pub judged : j ≡ Lines n
   pub some : missing k n ≡ false
   pub fits : m ≤ room
-  pub is : m ≡ 16 * n
+  pub is : m ≡ size * n
 
-read-by : (k : Kind) (n room m : ℕ) (a b : Bool) → missing k n ≡ a → ltb room (16 * n) ≡ b
-    → if a (Refused (noRecord (k .part))) (if b (Refused noRoom) (Places (16 * n))) ≡ Places m → WasRead k room (Lines n) m
+read-by : (k : Kind) (n room m : ℕ) (a b : Bool) → missing k n ≡ a → ltb room (size * n) ≡ b
+    → if a (Refused (noRecord (k .part))) (if b (Refused noRoom) (Places (size * n))) ≡ Places m → WasRead k room (Lines n) m
 read-by k n room m true b p q e = absurd (no-places _ m e)
 read-by k n room m false true p q e = absurd (no-places _ m e)
 read-by k n room m false false p q e =
-    let i : m ≡ 16 * n = cc in
-    record { n = n; judged = refl; some = p; fits = omega (arith, ltb-false room (16 * n) q); is = i }
+    let i : m ≡ size * n = cc in
+    record { n = n; judged = refl; some = p; fits = omega (arith, ltb-false room (size * n) q); is = i }
 
 was-judged : (k : Kind) (j : Judged) (room m : ℕ) → readJudged k j room ≡ Places m → WasRead k room j m
 unfolding readJudged
-was-judged k (Lines n) room m e = read-by k n room m (missing k n) (ltb room (16 * n)) refl refl e
+was-judged k (Lines n) room m e = read-by k n room m (missing k n) (ltb room (size * n)) refl refl e
 was-judged k (Wrong l) room m e = absurd (no-places _ m e)
 was-judged k Over room m e = absurd (no-places _ m e)
 
@@ -63,22 +64,22 @@ filled-first f out m e p = rw (e, p) (take-at (tab f m) _ m (length-tab f m))
 
 pub record WasWritten (k : Kind) (room : ℕ) (r : List ℕ) (m : ℕ) : Type 0 where
   pub some : missing k (length r) ≡ false
-  pub whole : length r % 16 ≤ 0
-  pub few : length r / 16 ≤ k .most
+  pub whole : length r % size ≤ 0
+  pub few : length r / size ≤ k .most
   pub fits : m ≤ room
-  pub is : m ≡ 33 * (length r / 16)
+  pub is : m ≡ lineLength * (length r / size)
 
-written-by : (k : Kind) (r : List ℕ) (room m : ℕ) (a b c d : Bool) → missing k (length r) ≡ a → ltb 0 (length r % 16) ≡ b → ltb (k .most) (length r / 16) ≡ c → ltb room (33 * (length r / 16)) ≡ d
-    → if a (Refused (noRecord (k .part))) (if b (Refused (cutShort (k .part))) (if c (Refused (tooMany (k .part))) (if d (Refused noRoom) (Places (33 * (length r / 16)))))) ≡ Places m → WasWritten k room r m
+written-by : (k : Kind) (r : List ℕ) (room m : ℕ) (a b c d : Bool) → missing k (length r) ≡ a → ltb 0 (length r % size) ≡ b → ltb (k .most) (length r / size) ≡ c → ltb room (lineLength * (length r / size)) ≡ d
+    → if a (Refused (noRecord (k .part))) (if b (Refused (cutShort (k .part))) (if c (Refused (tooMany (k .part))) (if d (Refused noRoom) (Places (lineLength * (length r / size)))))) ≡ Places m → WasWritten k room r m
 written-by k r room m true b c d p q s t e = absurd (no-places _ m e)
 written-by k r room m false true c d p q s t e = absurd (no-places _ m e)
 written-by k r room m false false true d p q s t e = absurd (no-places _ m e)
 written-by k r room m false false false true p q s t e = absurd (no-places _ m e)
 written-by k r room m false false false false p q s t e =
-    let i : m ≡ 33 * (length r / 16) = cc in
-    record { some = p; whole = ltb-false 0 (length r % 16) q; few = ltb-false (k .most) (length r / 16) s; fits = omega (arith, ltb-false room (33 * (length r / 16)) t); is = i }
+    let i : m ≡ lineLength * (length r / size) = cc in
+    record { some = p; whole = ltb-false 0 (length r % size) q; few = ltb-false (k .most) (length r / size) s; fits = omega (arith, ltb-false room (lineLength * (length r / size)) t); is = i }
 
 pub was-written : (k : Kind) (r : List ℕ) (room m : ℕ) → writeOf k r room ≡ Places m → WasWritten k room r m
 unfolding writeOf
 was-written k r room m e =
-    written-by k r room m (missing k (length r)) (ltb 0 (length r % 16)) (ltb (k .most) (length r / 16)) (ltb room (33 * (length r / 16))) refl refl refl refl e
+    written-by k r room m (missing k (length r)) (ltb 0 (length r % size)) (ltb (k .most) (length r / size)) (ltb room (lineLength * (length r / size))) refl refl refl refl e

@@ -5,8 +5,9 @@ use mathlib.Core.List.{List}
 use Prim.Native.Nat.{ℕ, _*_, _/_, _%_, _<_, _≤_}
 use borrow.Author.Tests.{lt-ltb, le-ltb}
 use lib.ListN.{length}
+use Rattle.record.specs.Bytes.{size}
 use Rattle.record.specs.Refusals.{badLine, tooMany, noRecord, cutShort, noRoom}
-use Rattle.text.specs.Text.{missing, judgeFrom, readOf, readJudged, writeOf}
+use Rattle.text.specs.Text.{missing, judgeFrom, readOf, readJudged, writeOf, lineLength}
 use Rattle.text.specs.declared.Kind.{Kind}
 use Rattle.text.specs.declared.Judged.the-variants.{Lines, Wrong, Over}
 use Rattle.text.specs.declared.Filled.the-variants.{Places, Refused}
@@ -24,30 +25,30 @@ module _ (k : Kind) (s : List ℕ) (room : ℕ) where
   unfolding readOf readJudged
   read-missing n e z = rw e (simp z)
 
-  pub read-short : (n : ℕ) → judgeFrom s (k .most) 0 ≡ Lines n → missing k n ≡ false → room < 16 * n → readOf k s room ≡ Refused noRoom
+  pub read-short : (n : ℕ) → judgeFrom s (k .most) 0 ≡ Lines n → missing k n ≡ false → room < size * n → readOf k s room ≡ Refused noRoom
   unfolding readOf readJudged
-  read-short n e z h = rw e (simp (z, lt-ltb room (16 * n) h))
+  read-short n e z h = rw e (simp (z, lt-ltb room (size * n) h))
 
-  pub read-done : (n : ℕ) → judgeFrom s (k .most) 0 ≡ Lines n → missing k n ≡ false → 16 * n ≤ room → readOf k s room ≡ Places (16 * n)
+  pub read-done : (n : ℕ) → judgeFrom s (k .most) 0 ≡ Lines n → missing k n ≡ false → size * n ≤ room → readOf k s room ≡ Places (size * n)
   unfolding readOf readJudged
-  read-done n e z h = rw e (simp (z, le-ltb room (16 * n) h))
+  read-done n e z h = rw e (simp (z, le-ltb room (size * n) h))
 
   pub write-missing : missing k (length s) ≡ true → writeOf k s room ≡ Refused (noRecord (k .part))
   unfolding writeOf
   write-missing z = simp z
 
-  pub write-cut : missing k (length s) ≡ false → 0 < length s % 16 → writeOf k s room ≡ Refused (cutShort (k .part))
+  pub write-cut : missing k (length s) ≡ false → 0 < length s % size → writeOf k s room ≡ Refused (cutShort (k .part))
   unfolding writeOf
-  write-cut z h = simp (z, lt-ltb 0 (length s % 16) h)
+  write-cut z h = simp (z, lt-ltb 0 (length s % size) h)
 
-  pub write-many : missing k (length s) ≡ false → length s % 16 ≤ 0 → k .most < length s / 16 → writeOf k s room ≡ Refused (tooMany (k .part))
+  pub write-many : missing k (length s) ≡ false → length s % size ≤ 0 → k .most < length s / size → writeOf k s room ≡ Refused (tooMany (k .part))
   unfolding writeOf
-  write-many z h f = simp (z, le-ltb 0 (length s % 16) h, lt-ltb (k .most) (length s / 16) f)
+  write-many z h f = simp (z, le-ltb 0 (length s % size) h, lt-ltb (k .most) (length s / size) f)
 
-  pub write-short : missing k (length s) ≡ false → length s % 16 ≤ 0 → length s / 16 ≤ k .most → room < 33 * (length s / 16) → writeOf k s room ≡ Refused noRoom
+  pub write-short : missing k (length s) ≡ false → length s % size ≤ 0 → length s / size ≤ k .most → room < lineLength * (length s / size) → writeOf k s room ≡ Refused noRoom
   unfolding writeOf
-  write-short z h f g = simp (z, le-ltb 0 (length s % 16) h, le-ltb (k .most) (length s / 16) f, lt-ltb room (33 * (length s / 16)) g)
+  write-short z h f g = simp (z, le-ltb 0 (length s % size) h, le-ltb (k .most) (length s / size) f, lt-ltb room (lineLength * (length s / size)) g)
 
-  pub write-done : missing k (length s) ≡ false → length s % 16 ≤ 0 → length s / 16 ≤ k .most → 33 * (length s / 16) ≤ room → writeOf k s room ≡ Places (33 * (length s / 16))
+  pub write-done : missing k (length s) ≡ false → length s % size ≤ 0 → length s / size ≤ k .most → lineLength * (length s / size) ≤ room → writeOf k s room ≡ Places (lineLength * (length s / size))
   unfolding writeOf
-  write-done z h f g = simp (z, le-ltb 0 (length s % 16) h, le-ltb (k .most) (length s / 16) f, le-ltb room (33 * (length s / 16)) g)
+  write-done z h f g = simp (z, le-ltb 0 (length s % size) h, le-ltb (k .most) (length s / size) f, le-ltb room (lineLength * (length s / size)) g)

@@ -1,4 +1,4 @@
--- How large an answer can be: at most 33 places a line that there may be, and no line beyond those. Assumes nothing.
+-- How large an answer can be: at most a line of places for each line that there may be, and no line beyond those. Assumes nothing.
 use mathlib.Core.Path.{_≡_, refl}
 use mathlib.Core.Bool.{Bool, true, false}
 use mathlib.Core.List.{List}
@@ -7,9 +7,10 @@ use native.Mathlib.Omega.{arith}
 use borrow.Author.Tests.{ltb-false}
 use lib.Dec.{ltb}
 use lib.ListN.{length}
+use Rattle.record.specs.Bytes.{size}
 use Rattle.record.specs.Choose.{if}
 use Rattle.record.specs.Refusals.{tooMany, noRecord, cutShort, noRoom}
-use Rattle.text.specs.Text.{missing, judgeFrom, readOf, readJudged, writeOf}
+use Rattle.text.specs.Text.{missing, judgeFrom, readOf, readJudged, writeOf, lineLength}
 use Rattle.text.specs.declared.Kind.{Kind}
 use Rattle.text.specs.declared.Judged.{Judged}
 use Rattle.text.specs.declared.Judged.the-variants.{Lines, Wrong, Over}
@@ -18,7 +19,7 @@ use Rattle.text.specs.declared.Filled.the-variants.{Places, Refused}
 use Rattle.text.proofs.Lined.{judge-lined, wrong-within}
 
 abbrev pub Within : Kind → Filled → Type 0
-Within k (Places m) = m ≤ 33 * k .most
+Within k (Places m) = m ≤ lineLength * k .most
 Within k (Refused r) = (r .number ≤ 7) × (r .part ≤ max 3 (k .part)) × (r .line ≤ k .most)
 
 refused-within : (k : Kind) (number : ℕ) → number ≤ 7 → (number ≤ 7) × (k .part ≤ max 3 (k .part)) × (0 ≤ k .most)
@@ -27,14 +28,14 @@ refused-within k number h = (h, omega arith, zero-le)
 room-within : (k : Kind) → Within k (Refused noRoom)
 room-within k = (omega arith, omega arith, zero-le)
 
-lines-within : (k : Kind) (n : ℕ) (a b : Bool) → n ≤ k .most → Within k (if a (Refused (noRecord (k .part))) (if b (Refused noRoom) (Places (16 * n))))
+lines-within : (k : Kind) (n : ℕ) (a b : Bool) → n ≤ k .most → Within k (if a (Refused (noRecord (k .part))) (if b (Refused noRoom) (Places (size * n))))
 lines-within k n true b h = refused-within k 3 (omega arith)
 lines-within k n false true h = room-within k
 lines-within k n false false h = omega arith
 
 judged-within : (k : Kind) (j : Judged) (room : ℕ) → ((n : ℕ) → j ≡ Lines n → n ≤ k .most) → ((l : ℕ) → j ≡ Wrong l → l ≤ k .most) → Within k (readJudged k j room)
 unfolding readJudged
-judged-within k (Lines n) room f g = lines-within k n (missing k n) (ltb room (16 * n)) (f n refl)
+judged-within k (Lines n) room f g = lines-within k n (missing k n) (ltb room (size * n)) (f n refl)
 judged-within k (Wrong l) room f g = (omega arith, omega arith, g l refl)
 judged-within k Over room f g = refused-within k 2 (omega arith)
 
@@ -46,7 +47,7 @@ read-within k s room =
     (λ l e. omega (arith, wrong-within s (k .most) 0 l e))
 
 written-within : (k : Kind) (n : ℕ) (a b c d : Bool) → ltb (k .most) n ≡ c
-    → Within k (if a (Refused (noRecord (k .part))) (if b (Refused (cutShort (k .part))) (if c (Refused (tooMany (k .part))) (if d (Refused noRoom) (Places (33 * n))))))
+    → Within k (if a (Refused (noRecord (k .part))) (if b (Refused (cutShort (k .part))) (if c (Refused (tooMany (k .part))) (if d (Refused noRoom) (Places (lineLength * n))))))
 written-within k n true b c d e = refused-within k 3 (omega arith)
 written-within k n false true c d e = refused-within k 4 (omega arith)
 written-within k n false false true d e = refused-within k 2 (omega arith)
@@ -55,4 +56,4 @@ written-within k n false false false false e = omega (arith, ltb-false (k .most)
 
 pub write-within : (k : Kind) (r : List ℕ) (room : ℕ) → Within k (writeOf k r room)
 unfolding writeOf
-write-within k r room = written-within k (length r / 16) (missing k (length r)) (ltb 0 (length r % 16)) (ltb (k .most) (length r / 16)) (ltb room (33 * (length r / 16))) refl
+write-within k r room = written-within k (length r / size) (missing k (length r)) (ltb 0 (length r % size)) (ltb (k .most) (length r / size)) (ltb room (lineLength * (length r / size))) refl

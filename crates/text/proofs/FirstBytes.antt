@@ -10,7 +10,7 @@ use lib.ListN.{length, take, length-take}
 use lib.Seq.{getD-take}
 use Rattle.record.proofs.Below.{all-same}
 use Rattle.text.specs.Hex.{isDigit}
-use Rattle.text.specs.Text.{digitAt, goodLine, judgeFrom, readOf}
+use Rattle.text.specs.Text.{digitAt, goodLine, judgeFrom, readOf, lineLength, digits}
 use Rattle.text.specs.FirstBytes.{FirstBytes}
 
 module _ (s : List ℕ) (bytes : ℕ) where
@@ -23,15 +23,15 @@ module _ (s : List ℕ) (bytes : ℕ) where
   fits-same at true h e = le-leb at (length (take bytes s)) (omega (arith, length-take bytes s, leb-true at (length s) e))
   fits-same at false h e = lt-leb at (length (take bytes s)) (omega (arith, length-take bytes s, leb-false at (length s) e))
 
-  line-same : (at : ℕ) → at + 33 ≤ bytes → goodLine (take bytes s) at ≡ goodLine s at
+  line-same : (at : ℕ) → at + lineLength ≤ bytes → goodLine (take bytes s) at ≡ goodLine s at
   unfolding goodLine
   line-same at h =
-      rw (fits-same (at + 33) _ h refl, getD-take bytes s (at + 32) 0 (omega arith), all-same (digitAt (take bytes s) at) (digitAt s at) 32 (λ j l. ap isDigit (getD-take bytes s (at + j) 0 (omega arith))))
+      rw (fits-same (at + lineLength) _ h refl, getD-take bytes s (at + digits) 0 (omega arith), all-same (digitAt (take bytes s) at) (digitAt s at) digits (λ j l. ap isDigit (getD-take bytes s (at + j) 0 (omega arith))))
 
-  judge-same : (more n : ℕ) → 33 * (n + more) < bytes → judgeFrom (take bytes s) more n ≡ judgeFrom s more n
+  judge-same : (more n : ℕ) → lineLength * (n + more) < bytes → judgeFrom (take bytes s) more n ≡ judgeFrom s more n
   unfolding judgeFrom
-  judge-same zero n h = rw (ends-same (33 * n) _ (omega arith) refl)
-  judge-same (suc more) n h = rw (ends-same (33 * n) _ (omega arith) refl, line-same (33 * n) (omega arith), judge-same more (n + 1) (omega arith))
+  judge-same zero n h = rw (ends-same (lineLength * n) _ (omega arith) refl)
+  judge-same (suc more) n h = rw (ends-same (lineLength * n) _ (omega arith) refl, line-same (lineLength * n) (omega arith), judge-same more (n + 1) (omega arith))
 
 pub first-bytes : FirstBytes
 unfolding readOf

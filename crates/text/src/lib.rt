@@ -1,4 +1,4 @@
-// The text of a book or a request, read and written: a record is a line of 32 hexadecimal digits and LF.
+// The text of a book or a request, read and written: a record is a line of hexadecimal digits and LF.
 use record::Refusal;
 ghost use mathlib.Core.Path.{_≡_};
 ghost use mathlib.Core.List.{_++_};
@@ -11,11 +11,16 @@ ghost use Rattle.text.specs.Table.{tab};
 ghost use Rattle.text.specs.Text.{book, request, missing, digits, lineLength, digitAt, goodLine, judgeFrom, byteAt, textAt, readOf, writeOf, outputAfter};
 
 // The digits of a line, and its bytes: the digits and LF.
-const DIGITS: usize = 32;
+const DIGITS: usize = 2 * record::SIZE;
 
-const LINE: usize = 33;
+pub const LINE: usize = DIGITS + 1;
 
 pub const LF: u8 = 10;
+
+// The bytes of the longest text of a book, and of a request, and one more, by which a longer text is told.
+pub const BOOK_TEXT: usize = record::MOST_RECORDS * LINE + 1;
+
+pub const REQUEST_TEXT: usize = record::MOST_ENTRIES * LINE + 1;
 
 // What reading and writing answer: so many places of the output are filled, or nothing is.
 pub enum Filled {
@@ -31,13 +36,13 @@ pub struct Kind {
 }
 
 const BOOK: Kind = Kind {
-    most: 1000,
+    most: record::MOST_RECORDS,
     empty: false,
     part: 1,
 };
 
 const REQUEST: Kind = Kind {
-    most: 64,
+    most: record::MOST_ENTRIES,
     empty: true,
     part: 2,
 };
@@ -99,7 +104,7 @@ pub fn letter(n: usize) -> u8
     d + 55
 }
 
-// Whether 32 digits stand at this place.
+// Whether the digits of a line stand at this place.
 fn all_digits(text: &[u8], at: usize) -> bool
     requires { ⌜ at + digits ≤ length (now text) ⌝ }
     ensures { λ r. ⌜ r ≡ allBelow (digitAt (now (text .entry)) at) digits ⌝ }
@@ -114,7 +119,7 @@ fn all_digits(text: &[u8], at: usize) -> bool
     true
 }
 
-// Whether 32 digits and LF stand at this place.
+// Whether the digits of a line and LF stand at this place.
 fn good_line(text: &[u8], at: usize) -> bool
     requires { ⌜ at ≤ length (now text) ⌝ }
     ensures { λ r. ⌜ r ≡ goodLine (now (text .entry)) at ⌝ }

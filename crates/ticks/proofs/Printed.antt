@@ -5,9 +5,10 @@ use Prim.Native.Nat.{ℕ, _/_, _≤_}
 use native.Mathlib.Omega.{arith}
 use borrow.Author.Tests.{le-leb}
 use lib.ListN.{length, take, drop, set, length-append, length-take}
+use Rattle.record.specs.Bytes.{mostRecords}
 use Rattle.record.specs.declared.Refusal.{Refusal}
 use Rattle.text.specs.Hex.{letterOf}
-use Rattle.line.specs.Line.{hexOf, decisionLine, refusalLine, placesOf, put}
+use Rattle.line.specs.Line.{hexOf, decisionLine, refusalLine, placesOf, put, longest}
 use Rattle.line.proofs.Laws.{length-refusal, length-decision, places-fits}
 use Rattle.meaning.specs.Numbers.{numberOf}
 use Rattle.meaning.specs.declared.Decision.{Decision}
@@ -23,7 +24,7 @@ steps-are n =
     rw (e, f)
 
 -- the line of an answer stands first, whole
-pub running-put : (l places : List ℕ) {a : Answer} → 4007 ≤ length l → a ≡ Running
+pub running-put : (l places : List ℕ) {a : Answer} → longest ≤ length l → a ≡ Running
     → Leads (answerLine a places) l (set (set (set l 0 48) 1 48) 2 10) 3
 unfolding answerLine hexOf letterOf
 running-put [] places h e = absurd (omega arith)
@@ -31,8 +32,8 @@ running-put (x ∷ []) places h e = absurd (omega arith)
 running-put (x ∷ y ∷ []) places h e = absurd (omega arith)
 running-put (x ∷ y ∷ z ∷ l) places h e = rw e (record { taken = refl; leaves = refl })
 
-module _ (l places : List ℕ) {later : List ℕ} {n : ℕ} (room : 4007 ≤ length l) (few : length places ≤ 1000) where
-  found : (line : List ℕ) → length line ≤ 4007 → n ≡ placesOf line (length l) → later ≡ put line l → Leads line l later n
+module _ (l places : List ℕ) {later : List ℕ} {n : ℕ} (room : longest ≤ length l) (few : length places ≤ mostRecords) where
+  found : (line : List ℕ) → length line ≤ longest → n ≡ placesOf line (length l) → later ≡ put line l → Leads line l later n
   unfolding put
   found line h p q =
       let e : n ≡ length line = p ∙ sym (places-fits line (length l) (omega arith)) in

@@ -24,10 +24,6 @@ answerLine Running places = hexOf 2 0 ++ (lf ∷ [])
 answerLine (Finished d n) places = decisionLine (numberOf d) (take n places)
 answerLine (Refused r) places = refusalLine r
 
--- no line is longer than that of a decision with as many obligations as a book can have records
-abbrev pub longest : ℕ
-longest = 2 + 4 + 4 * mostRecords + 1
-
 -- a line stands first in a lent output: n is its length, and what stands behind it stays
 pub record Leads (line before after : List ℕ) (n : ℕ) : Type 0 where
   pub taken : n ≡ length line

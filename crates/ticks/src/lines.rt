@@ -4,7 +4,8 @@ ghost use mathlib.Core.Path.{_≡_};
 ghost use Prim.Native.Nat.{_<_, _≤_};
 ghost use lib.ListN.{length};
 ghost use Rattle.record.specs.Bytes.{mostRecords};
-ghost use Rattle.ticks.specs.Lines.{longest, stepsOf, answerLine, Leads};
+ghost use Rattle.line.specs.Line.{longest};
+ghost use Rattle.ticks.specs.Lines.{stepsOf, answerLine, Leads};
 
 // The steps, and a space.
 pub fn steps_digits(steps: u64) -> [u8; 5]

@@ -51,7 +51,7 @@ fn complain(i: usize) {
 fn show(steps: u64, answer: Answer, places: &[u16])
     requires { ⌜ (steps < 65536) × (length (now places) ≤ mostRecords) ⌝ }
 {
-    let mut out = [0u8; 4007];
+    let mut out = [0u8; line::LONGEST];
     let digits = lines::steps_digits(steps);
     let n = lines::answer_line(answer, places, &mut out);
     io::write_all(STDOUT_FILENO, &digits);
@@ -144,8 +144,8 @@ fn run_records(book: &[u8], request: &[u8], count: usize) {
 }
 
 fn run_texts(book: &[u8], request: &[u8], count: usize) {
-    let mut records = [0u8; 16000];
-    let mut entries = [0u8; 1024];
+    let mut records = [0u8; record::BOOK];
+    let mut entries = [0u8; record::REQUEST];
     match text::read_book(book, &mut records) {
         Filled::Places(n) => match text::read_request(request, &mut entries) {
             Filled::Places(m) => run_records(&records[..n], &entries[..m], count),
@@ -163,8 +163,8 @@ fn main() {
         complain(wrong);
         return;
     }
-    let mut book = [0u8; 33001];
-    let mut request = [0u8; 2113];
+    let mut book = [0u8; text::BOOK_TEXT];
+    let mut request = [0u8; text::REQUEST_TEXT];
     let n = file::read_book_file(&mut book);
     let m = io::read_full(STDIN_FILENO, &mut request);
     run_texts(&book[..n], &request[..m], count);

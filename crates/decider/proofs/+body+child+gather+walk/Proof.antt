@@ -27,8 +27,8 @@ use Rattle.algorithm.proofs.settles.Reads as settles-reads
 use Rattle.algorithm.proofs.take_in.Reads as take-in-reads
 use Rattle.decider.proofs.choose.Reads as choose-reads
 use Rattle.decider.proofs.is_only.Reads as is-only-reads
-use Rattle.decider.proofs.is_party.Reads as is-party-reads
-use Rattle.decider.proofs.over_policies.Reads as over-policies-reads
+use Rattle.meaning.proofs.is_party.Reads as is-party-reads
+use Rattle.meaning.proofs.over_policies.Reads as over-policies-reads
 use Rattle.decider.proofs.own.Reads as own-reads
 use Rattle.decider.proofs.places.settle.Reads as settle-reads
 use Rattle.decider.proofs.stay.Reads as stay-reads

@@ -6,15 +6,15 @@ use Prim.Native.Nat.{_≤_, _-_}
 use borrow.Author.Tests.{not-true, not-false}
 use Rattle.record.specs.Below.{allBelow}
 use Rattle.record.proofs.Below.{all-more, all-false}
-use Rattle.text.specs.Text.{digitAt}
+use Rattle.text.specs.Text.{digitAt, digits}
 use Rattle.text.proofs.all_digits.Statement.{statement}
 use Rattle.text.proofs.all_digits.Tie as tie
 
 abbrev Inv-loop : tie.InvT-loop
-Inv-loop text at j₀ j = (j ≤ 32) × (allBelow (digitAt text at) j ≡ true)
+Inv-loop text at j₀ j = (j ≤ digits) × (allBelow (digitAt text at) j ≡ true)
 
 abbrev μ-loop : tie.MeasureT-loop
-μ-loop text at j₀ j = 32 - j
+μ-loop text at j₀ j = digits - j
 
 loop-holds : tie.Need-loop-holds Inv-loop μ-loop
 unfolding allBelow
@@ -32,7 +32,7 @@ is-digit-requires c κs = search needs
 returns : tie.Need-returns Inv-loop μ-loop
 returns c =
     let a = c .before .before .before .before .before .before .args in
-    sym (all-false (digitAt (a .text .now) (a .at)) 32 (c .before .before .before .before .loop .j) (search needs) (sym (c .before .is-digit .ensures) ∙ not-true _ (c .if1 .taken)))
+    sym (all-false (digitAt (a .text .now) (a .at)) digits (c .before .before .before .before .loop .j) (search needs) (sym (c .before .is-digit .ensures) ∙ not-true _ (c .if1 .taken)))
 
 add-j : tie.Need-add-j Inv-loop μ-loop
 add-j c = search needs
@@ -47,7 +47,7 @@ loop-again c =
 
 returns-2 : tie.Need-returns-2 Inv-loop μ-loop
 returns-2 c =
-    let e : c .before .loop .j ≡ 32 = omega arith in
+    let e : c .before .loop .j ≡ digits = omega arith in
     sym (rw e at (c .before .loop .inv .1))
 
 pub all-digits-spec : {M : Type 1} → statement M

@@ -4,6 +4,7 @@ use mathlib.Core.Path.{_≡_, refl}
 use mathlib.Core.List.{_++_}
 use Prim.Native.Nat.{_≤_, _-_, _*_}
 use lib.ListN.{length, drop}
+use Rattle.record.specs.Bytes.{size}
 use Rattle.text.specs.Table.{tab}
 use Rattle.text.specs.Text.{byteAt}
 use Rattle.text.proofs.Laws.{tab-none, tab-more}
@@ -47,7 +48,7 @@ same-length c = search needs
 
 returns : tie.Need-returns Inv-loop μ-loop
 returns c =
-    let e : c .before .loop .i ≡ 16 * c .before .before .before .before .args .n = omega arith in
+    let e : c .before .loop .i ≡ size * c .before .before .before .before .args .n = omega arith in
     rw e at (c .before .loop .inv .1)
 
 pub decode-spec : {M : Type 1} → statement M

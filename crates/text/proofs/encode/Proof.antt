@@ -5,7 +5,7 @@ use mathlib.Core.List.{_++_}
 use Prim.Native.Nat.{_≤_, _-_, _*_}
 use lib.ListN.{length, drop}
 use Rattle.text.specs.Table.{tab}
-use Rattle.text.specs.Text.{textAt}
+use Rattle.text.specs.Text.{textAt, lineLength}
 use Rattle.text.proofs.Laws.{tab-none, tab-more}
 use Rattle.text.proofs.encode.Statement.{statement}
 use Rattle.text.proofs.encode.Tie as tie
@@ -47,7 +47,7 @@ same-length c = search needs
 
 returns : tie.Need-returns Inv-loop μ-loop
 returns c =
-    let e : c .before .loop .j ≡ 33 * c .before .before .before .before .args .n = omega arith in
+    let e : c .before .loop .j ≡ lineLength * c .before .before .before .before .args .n = omega arith in
     rw e at (c .before .loop .inv .1)
 
 pub encode-spec : {M : Type 1} → statement M

@@ -3,7 +3,7 @@ use native.Mathlib.Omega.{arith}
 use Prim.Native.Nat.{_+_}
 use lib.ListN.{length}
 use borrow.Author.Tests.{lt-leb, le-leb, eq-eqb, ne-eqb}
-use Rattle.text.specs.Text.{goodLine}
+use Rattle.text.specs.Text.{goodLine, lineLength}
 use Rattle.text.proofs.good_line.Statement.{statement}
 use Rattle.text.proofs.good_line.Tie as tie
 
@@ -12,7 +12,7 @@ sub-if1 c = search needs
 
 returns : tie.Need-returns
 unfolding goodLine
-returns c = simp (lt-leb (c .before .before .args .at + 33) (length (c .before .before .args .text .now)) (omega arith))
+returns c = simp (lt-leb (c .before .before .args .at + lineLength) (length (c .before .before .args .text .now)) (omega arith))
 
 add-if2 : tie.Need-add-if2
 add-if2 c = search needs
@@ -22,14 +22,14 @@ shared-slice-read-if2 c = omega arith
 
 returns-2 : tie.Need-returns-2
 unfolding goodLine
-returns-2 c = simp (le-leb (c .before .before .before .before .args .at + 33) (length (c .before .before .before .before .args .text .now)) (omega arith), ne-eqb _ _ (c .if2 .taken))
+returns-2 c = simp (le-leb (c .before .before .before .before .args .at + lineLength) (length (c .before .before .before .before .args .text .now)) (omega arith), ne-eqb _ _ (c .if2 .taken))
 
 all-digits-requires : tie.Need-all-digits-requires
 all-digits-requires c κs = search needs
 
 returns-3 : tie.Need-returns-3
 unfolding goodLine
-returns-3 c = simp (le-leb (c .before .before .before .before .before .args .at + 33) (length (c .before .before .before .before .before .args .text .now)) (omega arith), eq-eqb _ _ (c .before .if2 .left)) (c .all-digits .ensures)
+returns-3 c = simp (le-leb (c .before .before .before .before .before .args .at + lineLength) (length (c .before .before .before .before .before .args .text .now)) (omega arith), eq-eqb _ _ (c .before .if2 .left)) (c .all-digits .ensures)
 
 pub good-line-spec : {M : Type 1} → statement M
 good-line-spec =

@@ -5,13 +5,13 @@ use Prim.Native.Nat.{_≤_, _-_, _*_, _+_}
 use native.Mathlib.Nat.{sub-zero}
 use lib.ListN.{length}
 use borrow.Author.Tests.{not-true, not-false}
-use Rattle.text.specs.Text.{judgeFrom}
+use Rattle.text.specs.Text.{judgeFrom, lineLength}
 use Rattle.text.proofs.Lined.{judge-end, judge-over, judge-wrong, judge-more, good-within}
 use Rattle.text.proofs.judge.Statement.{statement}
 use Rattle.text.proofs.judge.Tie as tie
 
 abbrev Inv-loop : tie.InvT-loop
-Inv-loop text most n₀ n = (n ≤ most) × (33 * n ≤ length text) × (judgeFrom text most 0 ≡ judgeFrom text (most - n) n)
+Inv-loop text most n₀ n = (n ≤ most) × (lineLength * n ≤ length text) × (judgeFrom text most 0 ≡ judgeFrom text (most - n) n)
 
 abbrev μ-loop : tie.MeasureT-loop
 μ-loop text most n₀ n = most - n

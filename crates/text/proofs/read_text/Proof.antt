@@ -5,7 +5,7 @@ use native.Mathlib.Omega.{arith}
 use borrow.Author.Needs.{needs}
 use Rattle.text.specs.declared.Filled.the-variants.{Refused}
 use Rattle.text.specs.declared.Judged.the-variants.{Lines}
-use Rattle.text.specs.Text.{judgeFrom, outputAfter}
+use Rattle.text.specs.Text.{judgeFrom, outputAfter, lineLength}
 use Rattle.text.proofs.Answers.{read-over, read-wrong, read-missing, read-short, read-done}
 use Rattle.text.proofs.Lined.{judge-lined}
 use Rattle.text.proofs.read_text.Statement.{statement}
@@ -15,8 +15,8 @@ use Rattle.text.proofs.read_text.Tie as tie
 lines : (c : tie.After-known-told) → judgeFrom (c .before .before .before .before .before .before .args .text .now) (c .before .before .before .before .before .before .args .kind .most) 0 ≡ Lines (c .before .n .given .0 .0)
 lines c = sym (c .before .before .before .judge .ensures) ∙ c .before .n .given .1
 
--- so it is 33 bytes a line long
-long : (c : tie.After-known-told) → length (c .before .before .before .before .before .before .args .text .now) ≡ 33 * c .before .n .given .0 .0
+-- so it is whole lines long
+long : (c : tie.After-known-told) → length (c .before .before .before .before .before .before .args .text .now) ≡ lineLength * c .before .n .given .0 .0
 long c = judge-lined _ _ 0 _ zero-le (lines c) .long
 
 judge-requires : tie.Need-judge-requires

@@ -2,7 +2,8 @@ use borrow.Author.Needs.{needs}
 use native.Mathlib.Omega.{arith}
 use Prim.Native.Nat.{_+_, _*_, _/_, _%_}
 use borrow.Author.Tests.{eq-eqb, ne-eqb}
-use Rattle.text.specs.Text.{textAt}
+use Rattle.record.specs.Bytes.{size}
+use Rattle.text.specs.Text.{textAt, lineLength}
 use Rattle.text.proofs.text_at.Statement.{statement}
 use Rattle.text.proofs.text_at.Tie as tie
 
@@ -22,7 +23,7 @@ shared-slice-read-b c = search needs
 cast-b : tie.Need-cast-b
 cast-b c =
     let j = c .before .before .before .args .j in
-    omega (arith, c .shared-slice-known2 .given (16 * (j / 33) + j % 33 / 2))
+    omega (arith, c .shared-slice-known2 .given (size * (j / lineLength) + j % lineLength / 2))
 
 letter-requires : tie.Need-letter-requires
 letter-requires c κs = search needs
