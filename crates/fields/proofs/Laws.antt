@@ -1,17 +1,19 @@
 -- Laws of the field rules: one for each return of the functions that test them. Assumes nothing.
-use mathlib.Core.Path.{_≡_, refl, ap, _∙_}
-use mathlib.Core.Bool.{Bool, true, false}
+use mathlib.Core.Path.{_≡_, refl, sym, ap, _∙_}
+use mathlib.Core.Bool.{Bool, true, false, not}
 use mathlib.Core.List.{List}
-use Prim.Native.Nat.{ℕ, zero, suc, _+_, _-_, _*_, _≤_, _<_}
+use Prim.Native.Nat.{ℕ, zero, suc, _+_, _-_, _*_, _/_, _%_, _^_, _≤_, _<_}
+use native.Mathlib.Nat.{add-zero}
 use native.Mathlib.Omega.{arith}
 use lib.Dec.{eqb}
 use lib.ListN.{getD}
 use borrow.Author.Tests.{le-leb, lt-leb, eq-eqb, ne-eqb}
 use Rattle.record.specs.Choose.{if, both, among}
-use Rattle.record.specs.Bytes.{size, byteOf, spanOf, bigOf}
+use Rattle.record.specs.Bytes.{size, Bytes, byteOf, spanOf, bigOf}
 use Rattle.record.specs.Below.{allBelow}
 use Rattle.record.proofs.Choose.{above-among}
 use Rattle.record.proofs.Below.{all-same, all-split}
+use Rattle.value.specs.Value.{finiteOf}
 use Rattle.fields.specs.First.{countBelow}
 use Rattle.fields.specs.Fields.{categoryOk, typeOf, typeAt, finite, valueOk, functionOk, zeros, plainOk, sectionOk, comparesOk, obligationOk, obligationsOf}
 use Rattle.fields.specs.Entries.{entryOk}
@@ -31,6 +33,18 @@ not-three (suc zero) p = refl
 not-three (suc (suc zero)) p = refl
 not-three (suc (suc (suc zero))) p = absurd (p refl)
 not-three (suc (suc (suc (suc c)))) p = above-among 3 3 (suc (suc (suc (suc c)))) (omega arith)
+
+-- the exponent of a value, from its first two bytes or from its number; and so whether it is a finite double
+exponent : (b : List ℕ) (i : ℕ) → Bytes b → bigOf b (i * size + 8) 8 / 2 ^ 52 % 2048 ≡ byteOf b i 8 % 128 * 16 + byteOf b i 9 / 16
+unfolding bigOf
+exponent b i h =
+    let next : i * size + 8 + 1 ≡ i * size + 9 = omega arith in
+    rw (add-zero (i * size + 8), next)
+    (omega (arith, h (i * size + 8), h (i * size + 9), h (i * size + 8 + 2), h (i * size + 8 + 3), h (i * size + 8 + 4), h (i * size + 8 + 5), h (i * size + 8 + 6), h (i * size + 8 + 7)))
+
+pub finite-bytes : (b : List ℕ) (i : ℕ) → Bytes b → {x y : ℕ} → x ≡ byteOf b i 8 → y ≡ byteOf b i 9 → not (eqb (x % 128 * 16 + y / 16) 2047) ≡ finite b i
+unfolding finite finiteOf
+finite-bytes b i h ex ey = rw (ex, ey) (ap (λ (n : ℕ). not (eqb n 2047)) (sym (exponent b i h)))
 
 -- bytes are zero where their number is
 same-byte : (b : List ℕ) (m n : ℕ) → m ≡ n → eqb (getD b m 0) 0 ≡ eqb (getD b n 0) 0

@@ -1,4 +1,4 @@
 -- What the proofs of several functions, and of other crates, use.
 pub mod First
 pub mod Laws
-pub mod Known
+pub mod Spans

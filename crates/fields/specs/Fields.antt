@@ -1,12 +1,13 @@
 -- The field rules: what a record must satisfy by itself (refusal 5), in the order of document 01: kind, choice, span, category, type, finite value,
 -- function of a name, unused bytes. Assumes nothing.
-use Prim.Native.Nat.{ℕ, _+_, _-_, _*_, _/_, _%_}
-use mathlib.Core.Bool.{Bool, true, false, not}
+use Prim.Native.Nat.{ℕ, _+_, _-_, _*_, _%_}
+use mathlib.Core.Bool.{Bool, true, false}
 use mathlib.Core.List.{List}
 use lib.Dec.{eqb, leb}
 use Rattle.record.specs.Choose.{if, both, among}
-use Rattle.record.specs.Bytes.{size, byteOf, spanOf}
+use Rattle.record.specs.Bytes.{size, byteOf, spanOf, bigOf}
 use Rattle.record.specs.Below.{allBelow}
+use Rattle.value.specs.Value.{finiteOf}
 use Rattle.fields.specs.First.{countBelow}
 use Rattle.fields.specs.declared.Kind.{Kind}
 use Rattle.fields.specs.declared.Kind.the-variants.{PolicySet, Policy, Rule, Section, Conjunction, Match, Logic, Not, Comparison, Obligation, Nothing}
@@ -42,9 +43,9 @@ typeOf t = if (eqb t 1) Integer (if (eqb t 2) Name (if (eqb t 3) Double Other))
 unfoldable pub typeAt : List ℕ → ℕ → Sort
 typeAt b i = typeOf (byteOf b i 5 % 128)
 
--- the value of record i, bytes 8 to 15, is finite as a double: its exponent, the 11 bits after the sign, is not 2,047
+-- the value of record i, bytes 8 to 15, is finite as a double
 unfoldable pub finite : List ℕ → ℕ → Bool
-finite b i = not (eqb (byteOf b i 8 % 128 * 16 + byteOf b i 9 / 16) 2047)
+finite b i = finiteOf (bigOf b (i * size + 8) 8)
 
 -- there is such a type, and a double is finite
 abbrev pub valueOk : Sort → Bool → Bool

@@ -1,4 +1,3 @@
 pub mod First
 pub mod Fields
 pub mod Entries
-pub mod Known

@@ -3,10 +3,11 @@ use mathlib.Core.Path.{_≡_, refl}
 use mathlib.Core.List.{List, [], _∷_}
 use Prim.Native.Nat.{ℕ, zero, suc}
 use lib.ListN.{set}
-use Rattle.record.specs.Bytes.{spanOf}
+use Rattle.record.specs.Bytes.{spanOf, bigOf}
 use Rattle.record.specs.Refusals.{book, request, noRecord, cutShort, badField, badPlace}
 use Rattle.record.specs.Below.{allBelow}
 use Rattle.record.proofs.BookA.{bytes, lines, bookA, is40}
+use Rattle.value.specs.Value.{finiteOf}
 use Rattle.fields.specs.First.{countBelow, lastBelow, firstFrom}
 use Rattle.fields.specs.Fields.{kindOf, kindAt, typeOf, typeAt, finite, zeros, plainOk, sectionOk, comparesOk, obligationOk, fieldOk, obligationsOf}
 use Rattle.fields.specs.Entries.{entryOk}
@@ -53,7 +54,7 @@ computed : judged
     ∷ Refused (badField book 6)
     ∷ Accepted 16 0
     ∷ Refused (badPlace 17) ∷ []
-unfolding a bytes lines bookA nested judged judgeOf judgeRecords spanOf allBelow countBelow lastBelow firstFrom kindOf kindAt typeOf typeAt finite zeros plainOk sectionOk comparesOk obligationOk fieldOk obligationsOf endOf parentOf elderOf depthOf holdsConditions singleOf rankAt elderRank standsOk childRule childBroken topOk brokenAt placeOk
+unfolding a bytes lines bookA nested judged judgeOf judgeRecords spanOf allBelow countBelow lastBelow firstFrom kindOf kindAt typeOf typeAt finite bigOf finiteOf zeros plainOk sectionOk comparesOk obligationOk fieldOk obligationsOf endOf parentOf elderOf depthOf holdsConditions singleOf rankAt elderRank standsOk childRule childBroken topOk brokenAt placeOk
 computed = refl
 
 -- the request of document 01's printed example
@@ -75,5 +76,5 @@ computed-requests : judged-requests
     ∷ of-request.Refused (cutShort request)
     ∷ of-request.Refused (badField request 1)
     ∷ of-request.Refused (badField request 1) ∷ []
-unfolding bytes lines is40 forty judged-requests judgeRequestOf judgeEntries allBelow firstFrom typeOf finite zeros entryOk
+unfolding bytes lines is40 forty judged-requests judgeRequestOf judgeEntries allBelow firstFrom typeOf finite bigOf finiteOf zeros entryOk
 computed-requests = refl

@@ -13,7 +13,7 @@ use Rattle.fields.specs.Fields.{kindOf, kindAt, categoryOk, zeros, sectionOk, c
 use Rattle.fields.specs.declared.Kind.{Kind}
 use Rattle.fields.specs.declared.Kind.the-variants.{PolicySet, Policy, Rule, Section, Conjunction, Match, Logic, Not, Comparison, Obligation, Nothing}
 use Rattle.fields.proofs.First.{by}
-use Rattle.fields.proofs.Known.{span-pos}
+use Rattle.fields.proofs.Spans.{span-pos}
 use Rattle.judge.specs.Place.{numberOf}
 use Rattle.judge.specs.Row.{Fit, isFit}
 

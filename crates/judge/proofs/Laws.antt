@@ -16,7 +16,7 @@ use Rattle.fields.specs.First.{lastBelow, countBelow, firstFrom}
 use Rattle.fields.specs.Fields.{kindAt, fieldOk, obligationsOf}
 use Rattle.fields.specs.declared.Kind.{Kind}
 use Rattle.fields.proofs.First.{by, last-is, last-ge, last-of, count-skip, count-one, count-same, first-none, first-here, first-next, first-le, first-past, first-in, first-all}
-use Rattle.fields.proofs.Known.{span-pos}
+use Rattle.fields.proofs.Spans.{span-pos}
 use Rattle.judge.specs.Place.{mostDepth, endOf, covers, parentOf, elderOf, depthOf, numberOf, takesOf, stepOf, underOk, rankOf, rankAt, elderRank, standsOk, childRule, childBroken, topOk, brokenAt, placeOk}
 use Rattle.judge.specs.Walk.{Walk, Finds}
 use Rattle.judge.specs.Sound.{ParentIs}

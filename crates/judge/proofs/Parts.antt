@@ -9,7 +9,7 @@ use Rattle.record.specs.Bytes.{byteOf, spanOf}
 use Rattle.fields.specs.Fields.{fieldOk}
 use Rattle.fields.specs.declared.Kind.{Kind}
 use Rattle.fields.specs.declared.Kind.the-variants.{Rule, Logic, Not, Comparison, Obligation}
-use Rattle.fields.proofs.Known.{plain-span}
+use Rattle.fields.proofs.Spans.{plain-span}
 use Rattle.judge.specs.Place.{mostDepth, numberOf, takesOf, stepOf, underOk, rankOf, holdsConditions, singleOf}
 use Rattle.judge.specs.Row.{Fit, Row}
 use Rattle.judge.proofs.Fits.{not-duty, fit-span, fit-leaf}

@@ -19,7 +19,7 @@ use Rattle.fields.specs.Fields.{kindAt, fieldOk}
 use Rattle.fields.specs.declared.Kind.{Kind}
 use Rattle.fields.specs.declared.Kind.the-variants.{PolicySet, Policy, Rule, Section, Conjunction, Match, Logic, Not, Comparison, Obligation, Nothing}
 use Rattle.fields.proofs.First.{by, last-ge, last-of}
-use Rattle.fields.proofs.Known.{span-pos, category-pos}
+use Rattle.fields.proofs.Spans.{span-pos, category-pos}
 use Rattle.judge.specs.Place.{endOf, covers, parentOf, depthOf, numberOf, singleOf, elderOf, elderRank, rankOf, rankAt, stepOf, underOk, standsOk, childBroken, topOk, brokenAt, placeOk}
 use Rattle.judge.specs.Exactly.{AllKeep, Sized, Keeps}
 use Rattle.judge.specs.Sound.{Nested, Row, KeptNests, OneTree, stated, NoCut, DepthIs, AfterAll, OkIsPlaced, PlacedIsOk, KeptInOrder}
