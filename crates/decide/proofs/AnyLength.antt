@@ -6,8 +6,8 @@ use native.Mathlib.Omega.{arith}
 use lib.ListN.{take}
 use lib.Seq.{take-all}
 use Rattle.record.specs.Bytes.{size, mostRecords, mostEntries}
-use Rattle.text.specs.Table.{tab}
 use Rattle.text.specs.Text.{book, request, readOf, byteAt, lineLength}
+use Rattle.record.specs.Table.{tab}
 use Rattle.text.specs.declared.Kind.{Kind}
 use Rattle.text.specs.declared.Filled.{Filled}
 use Rattle.text.specs.declared.Filled.the-variants as read

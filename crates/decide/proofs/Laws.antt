@@ -6,7 +6,7 @@ use native.Mathlib.Omega.{arith}
 use lib.ListN.{length, take, length-take}
 use Rattle.record.specs.Bytes.{size, mostRecords, mostEntries}
 use Rattle.record.specs.declared.Refusal.{Refusal}
-use Rattle.text.specs.Table.{tab}
+use Rattle.record.specs.Table.{tab}
 use Rattle.text.specs.Text.{book, request, readOf, byteAt, outputAfter}
 use Rattle.text.specs.declared.Filled.{Filled}
 use Rattle.text.specs.declared.Filled.the-variants as read

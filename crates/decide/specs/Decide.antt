@@ -4,7 +4,7 @@ use mathlib.Core.List.{List}
 use Prim.Native.Nat.{ℕ, _+_, _*_}
 use lib.ListN.{take}
 use Rattle.record.specs.Bytes.{size, mostRecords, mostEntries}
-use Rattle.text.specs.Table.{tab}
+use Rattle.record.specs.Table.{tab}
 use Rattle.text.specs.Text.{book, request, lineLength, readOf, byteAt}
 use Rattle.text.specs.declared.Filled.{Filled}
 use Rattle.text.specs.declared.Filled.the-variants as read

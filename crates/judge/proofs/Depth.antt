@@ -10,7 +10,7 @@ use native.Mathlib.Nat.{eq-or-lt-of-le}
 use native.Mathlib.Omega.{arith}
 use Rattle.record.specs.Bytes.{spanOf}
 use Rattle.record.specs.Forest.{Forest, none, node, spanIn, forest, height}
-use Rattle.record.proofs.Forests.{forest-none, forest-step}
+use Rattle.record.proofs.Forests.{span-stated, forest-none, forest-step}
 use Rattle.judge.specs.Place.{endOf, depthOf}
 use Rattle.fields.specs.First.{countBelow}
 use Rattle.judge.specs.Sound.{Nested}
@@ -30,11 +30,6 @@ unfolding height
 height-node f i kids rest e = rw e refl
 
 module _ (b : List ℕ) (n : ℕ) (w : Nested b n) where
-  -- the span of a record that ends in time is the one that it states
-  span-stated : (i left : ℕ) → i < n → endOf b i ≤ i + left → spanIn b i left ≡ spanOf b i
-  unfolding spanIn endOf
-  span-stated i left l e = let s = w .spans i l in omega (arith, s, e)
-
   end-is : (i : ℕ) → endOf b i ≡ i + spanOf b i
   unfolding endOf
   end-is i = refl
@@ -47,9 +42,9 @@ module _ (b : List ℕ) (n : ℕ) (w : Nested b n) where
       let ends = w .ends p m in
       let i-in : i < n = omega (arith, e, ends) in
       let within : endOf b i ≤ endOf b p = w .nests p i a i-in (omega (arith, e)) in
-      let s : spanIn b i (suc k) ≡ spanOf b i = span-stated i (suc k) i-in (omega (arith, within, e)) in
       let at = end-is i in
       let some = w .spans i i-in in
+      let s : spanIn b i (suc k) ≡ spanOf b i = span-stated b i (suc k) some (omega (arith, within, e, at)) in
       let d : depthOf b i ≡ depthOf b p + 1 = depth-under b p i a (omega (arith, e)) inner (λ j x y. let z = w .nests j p x m y in omega (arith, z, e)) in
       let kids = deep f i (i + 1) (spanIn b i (suc k) - 1) (omega (arith, l, s, within, at, e)) (omega arith) (omega (arith, s, at, some)) i-in (λ j x y. absurd (omega (arith, x, y))) in
       let rest = deep f p (i + spanIn b i (suc k)) (suc k - spanIn b i (suc k)) (omega (arith, l, s, some)) (omega (arith, a)) (omega (arith, s, at, within, e)) m (λ j x y. past j x y s at i-in) in

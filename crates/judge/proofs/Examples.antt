@@ -24,7 +24,7 @@ a : List ℕ
 a = lines bookA
 
 -- n nested sets
-nested : ℕ → List ℕ
+unfoldable pub nested : ℕ → List ℕ
 nested zero = []
 nested (suc n) = 1 ∷ 1 ∷ 0 ∷ suc n ∷ 0 ∷ 0 ∷ 0 ∷ 0 ∷ 0 ∷ 0 ∷ 0 ∷ 0 ∷ 0 ∷ 0 ∷ 0 ∷ 0 ∷ nested n
 

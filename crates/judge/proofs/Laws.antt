@@ -113,7 +113,7 @@ tests true false u e = absurd (omega arith)
 tests false t u e = absurd (omega arith)
 
 -- a child that breaks no rule
-rule-none : (end top d : ℕ) (t : Bool) → childRule end top d t ≡ 0 → (end ≤ top) × (t ≡ true) × (d ≤ mostDepth)
+pub rule-none : (end top d : ℕ) (t : Bool) → childRule end top d t ≡ 0 → (end ≤ top) × (t ≡ true) × (d ≤ mostDepth)
 unfolding childRule
 rule-none end top d t e = let w = tests (leb end top) t (leb d mostDepth) e in (leb-true end top (w .0), w .1, leb-true d mostDepth (w .2))
 
@@ -294,7 +294,7 @@ module _ (b : List ℕ) {n m : ℕ} {k : Kind} {u : Bool} (h : 0 < n) (el : leng
     top-span x = top-not (rw (← ek, ← em, ← eu, t, ← es) (ne-eqb s (length b / size) (λ y. x (omega arith))))
 
     module _ (x : s ≡ n) where
-      top-ok : placeOk b 0 ≡ true
+      pub top-ok : placeOk b 0 ≡ true
       unfolding placeOk brokenAt topOk
       top-ok = rw (← ek, ← em, ← eu, t, ← es, eq-eqb s (length b / size) (omega arith))
 

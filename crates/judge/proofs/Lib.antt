@@ -11,4 +11,4 @@ pub mod Bounds
 pub mod Sound
 pub mod Depth
 pub mod Unique
-mod Examples
+pub mod Examples

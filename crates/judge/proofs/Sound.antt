@@ -12,7 +12,7 @@ use borrow.Author.Tests.{lt-ltb, ltb-false, eq-eqb, ne-eqb, eqb-true, eqb-false}
 use Rattle.record.specs.Choose.{if, either, among}
 use Rattle.record.specs.Bytes.{size, byteOf, spanOf}
 use Rattle.record.specs.Forest.{spanIn, growF, forest}
-use Rattle.record.proofs.Choose.{both-right}
+use Rattle.record.proofs.Choose.{both-parts}
 use Rattle.record.proofs.Forests.{forest-none, forest-step}
 use Rattle.fields.specs.First.{lastBelow, countBelow}
 use Rattle.fields.specs.Fields.{kindAt, fieldOk}
@@ -25,17 +25,21 @@ use Rattle.judge.specs.Exactly.{AllKeep, Sized, Keeps}
 use Rattle.judge.specs.Sound.{Nested, Row, KeptNests, OneTree, stated, NoCut, DepthIs, AfterAll, OkIsPlaced, PlacedIsOk, KeptInOrder}
 use Rattle.judge.proofs.Laws.{depth-under, ends-within, parent-ge, parent-of, kept-at, stands-parts, all-but, rule-zero}
 
--- line 1 covers all
+-- line 1 is a policy set or a policy, and covers all
 top-true : (t : Bool) → _≡_ {A = ℕ} (if t 0 9) 0 → t ≡ true
 top-true true e = refl
 top-true false e = absurd (omega arith)
 
-whole-is : (b : List ℕ) (n : ℕ) → Sized b n → placeOk b 0 ≡ true → endOf b 0 ≡ n
-unfolding placeOk brokenAt topOk endOf
-whole-is b n s e =
+pub top-kept : (b : List ℕ) (n : ℕ) → Sized b n → placeOk b 0 ≡ true → (among 1 2 (numberOf (kindAt b 0)) ≡ true) × (spanOf b 0 ≡ n)
+unfolding placeOk brokenAt topOk
+top-kept b n s e =
     let y : topOk b ≡ true = top-true (topOk b) (eqb-true (brokenAt b 0) 0 e) in
-    let x = eqb-true (spanOf b 0) (length b / size) (both-right (among 1 2 (numberOf (kindAt b 0))) (eqb (spanOf b 0) (length b / size)) y) in
-    omega (arith, s .bytes)
+    let x = both-parts (among 1 2 (numberOf (kindAt b 0))) (eqb (spanOf b 0) (length b / size)) y in
+    (x .0, omega (arith, s .bytes, eqb-true (spanOf b 0) (length b / size) (x .1)))
+
+whole-is : (b : List ℕ) (n : ℕ) → Sized b n → placeOk b 0 ≡ true → endOf b 0 ≡ n
+unfolding endOf
+whole-is b n s e = omega (arith, top-kept b n s e .1)
 
 depth-one : (b : List ℕ) → depthOf b 0 ≡ 1
 unfolding depthOf countBelow
@@ -187,7 +191,7 @@ step-le p c Comparison h = single-le p
 step-le p c Obligation h = omega arith
 step-le p c Nothing h = omega arith
 
-under-is : (k : Kind) (g c : ℕ) → (k ≡ Match → g ≡ c) → underOk k g c ≡ true
+pub under-is : (k : Kind) (g c : ℕ) → (k ≡ Match → g ≡ c) → underOk k g c ≡ true
 under-is PolicySet g c h = refl
 under-is Policy g c h = refl
 under-is Rule g c h = refl

@@ -5,7 +5,7 @@ use Prim.Native.Nat.{ℕ, _≤_, zero-le, _*_}
 use native.Mathlib.Omega.{arith}
 use lib.ListN.{length, take}
 use Rattle.record.specs.declared.Refusal.{Refusal}
-use Rattle.text.specs.Table.{tab}
+use Rattle.record.specs.Table.{tab}
 use Rattle.text.specs.Text.{book, readOf, writeOf, byteAt, textAt, outputAfter}
 use Rattle.record.specs.Bytes.{Bytes, size, mostRecords}
 use Rattle.text.specs.RoundTrip.{upper}

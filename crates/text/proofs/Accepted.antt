@@ -11,15 +11,15 @@ use lib.Seq.{take-at}
 use Rattle.record.specs.Bytes.{size}
 use Rattle.record.specs.Choose.{if}
 use Rattle.record.specs.Refusals.{tooMany, noRecord, cutShort, noRoom}
+use Rattle.record.specs.Table.{tab}
+use Rattle.record.proofs.Table.{length-tab}
 use Rattle.record.specs.declared.Refusal.{Refusal}
-use Rattle.text.specs.Table.{tab}
 use Rattle.text.specs.Text.{missing, judgeFrom, readOf, readJudged, writeOf, outputAfter, lineLength}
 use Rattle.text.specs.declared.Kind.{Kind}
 use Rattle.text.specs.declared.Judged.{Judged}
 use Rattle.text.specs.declared.Judged.the-variants.{Lines, Wrong, Over}
 use Rattle.text.specs.declared.Filled.{Filled}
 use Rattle.text.specs.declared.Filled.the-variants.{Places, Refused}
-use Rattle.text.proofs.Laws.{length-tab}
 
 no-places : (r : Refusal) (m : ℕ) → Refused r ≡ Places m → ⊥
 no-places r m e = let z : _≡_ {A = ℕ} 0 1 = cc in omega arith

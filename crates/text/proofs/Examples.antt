@@ -4,9 +4,9 @@ use mathlib.Core.List.{List, [], _∷_, _++_}
 use Prim.Native.Nat.{ℕ}
 use Rattle.record.specs.Refusals.{badLine, noRoom}
 use Rattle.record.specs.Below.{allBelow}
+use Rattle.record.specs.Table.{tab}
 use Rattle.record.proofs.BookA.{bytes, lines, bookA}
 use Rattle.text.specs.Hex.{digitOf, isDigit, valueOf, letterOf}
-use Rattle.text.specs.Table.{tab}
 use Rattle.text.specs.Text.{book, goodLine, judgeFrom, readOf, readJudged, byteAt, textAt, writeOf}
 use Rattle.text.specs.declared.Filled.the-variants.{Places, Refused}
 

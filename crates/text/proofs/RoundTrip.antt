@@ -10,16 +10,17 @@ use borrow.Author.Tests.{le-leb, eq-eqb, ne-eqb, eqb-true}
 use lib.Dec.{eqb, leb}
 use lib.Seq.{ext-getD}
 use lib.ListN.{length, getD, length-map, List·getD-map}
+use Rattle.record.specs.Table.{tab}
 use Rattle.record.proofs.Choose.{both-left, both-right}
 use Rattle.record.proofs.Below.{all-of, all-at}
+use Rattle.record.proofs.Table.{getD-tab, length-tab}
 use Rattle.text.specs.Hex.{letterOf, valueOf, isDigit}
-use Rattle.text.specs.Table.{tab}
 use Rattle.text.specs.Text.{textAt, byteAt, digitAt, goodLine, judgeFrom, readOf, writeOf, lineLength, digits}
 use Rattle.record.specs.Bytes.{Bytes, size}
 use Rattle.text.specs.RoundTrip.{upper, WrittenIsRead, ReadIsWritten}
 use Rattle.text.specs.declared.Filled.the-variants.{Places}
 use Rattle.text.specs.declared.Judged.the-variants.{Lines}
-use Rattle.text.proofs.Laws.{value-small, getD-tab, length-tab}
+use Rattle.text.proofs.Laws.{value-small}
 use Rattle.text.proofs.Letters.{letter-last, letter-value, value-letter, digit-letter}
 use Rattle.text.proofs.Lined.{judge-good, judge-lined, Lined}
 use Rattle.text.proofs.Answers.{read-done, write-done}

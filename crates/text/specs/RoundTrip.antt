@@ -5,7 +5,7 @@ use Prim.Native.Nat.{ℕ, _-_, _≤_}
 use lib.ListN.{length}
 use Rattle.record.specs.Choose.{if, among}
 use Rattle.record.specs.Bytes.{Bytes}
-use Rattle.text.specs.Table.{tab}
+use Rattle.record.specs.Table.{tab}
 use Rattle.text.specs.Text.{readOf, writeOf, byteAt, textAt}
 use Rattle.text.specs.declared.Kind.{Kind}
 use Rattle.text.specs.declared.Filled.the-variants.{Places}

@@ -9,8 +9,8 @@ use Rattle.record.specs.Bytes.{size, mostRecords, mostEntries}
 use Rattle.record.specs.Refusals as refusals
 use Rattle.record.specs.Refusals.{badLine, tooMany, noRecord, cutShort, noRoom}
 use Rattle.record.specs.Below.{allBelow}
+use Rattle.record.specs.Table.{tab}
 use Rattle.text.specs.Hex.{isDigit, valueOf, letterOf}
-use Rattle.text.specs.Table.{tab}
 use Rattle.text.specs.declared.Kind.{Kind}
 use Rattle.text.specs.declared.Judged.{Judged}
 use Rattle.text.specs.declared.Judged.the-variants.{Lines, Wrong, Over}

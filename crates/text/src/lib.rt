@@ -6,8 +6,8 @@ ghost use Prim.Native.Nat.{_<_, _≤_, _+_, _*_, _/_};
 ghost use lib.ListN.{length, drop};
 ghost use Rattle.record.specs.Bytes.{size};
 ghost use Rattle.record.specs.Below.{allBelow};
+ghost use Rattle.record.specs.Table.{tab};
 ghost use Rattle.text.specs.Hex.{digitOf, isDigit, valueOf, letterOf};
-ghost use Rattle.text.specs.Table.{tab};
 ghost use Rattle.text.specs.Text.{book, request, missing, digits, lineLength, digitAt, goodLine, judgeFrom, byteAt, textAt, readOf, writeOf, outputAfter};
 
 // The digits of a line, and its bytes: the digits and LF.

@@ -5,9 +5,9 @@ use mathlib.Core.List.{_++_}
 use Prim.Native.Nat.{_≤_, _-_, _*_}
 use lib.ListN.{length, drop}
 use Rattle.record.specs.Bytes.{size}
-use Rattle.text.specs.Table.{tab}
+use Rattle.record.specs.Table.{tab}
+use Rattle.record.proofs.Table.{tab-none, tab-more}
 use Rattle.text.specs.Text.{byteAt}
-use Rattle.text.proofs.Laws.{tab-none, tab-more}
 use Rattle.text.proofs.decode.Statement.{statement}
 use Rattle.text.proofs.decode.Tie as tie
 

@@ -4,9 +4,9 @@ use mathlib.Core.Path.{_≡_, refl}
 use mathlib.Core.List.{_++_}
 use Prim.Native.Nat.{_≤_, _-_, _*_}
 use lib.ListN.{length, drop}
-use Rattle.text.specs.Table.{tab}
 use Rattle.text.specs.Text.{textAt, lineLength}
-use Rattle.text.proofs.Laws.{tab-none, tab-more}
+use Rattle.record.specs.Table.{tab}
+use Rattle.record.proofs.Table.{tab-none, tab-more}
 use Rattle.text.proofs.encode.Statement.{statement}
 use Rattle.text.proofs.encode.Tie as tie
 
