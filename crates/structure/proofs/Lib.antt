@@ -1,0 +1,11 @@
+pub mod Records
+pub mod Subtrees
+pub mod Sound
+pub mod Accepted
+pub mod Parts
+pub mod Books
+pub mod Spanned
+pub mod Written
+pub mod Replaced
+pub mod ReadAlike
+mod Examples

@@ -1,0 +1,175 @@
+-- The meaning of records is read off their own bytes, and their spans only say which are children of which. Assumes nothing.
+use mathlib.Core.Path.{_≡_, refl, sym, ap, _∙_}
+use mathlib.Core.Bool.{Bool}
+use mathlib.Core.List.{List}
+use Prim.Native.Nat.{ℕ, zero, suc, _+_, _-_, _*_, _≤_, _<_}
+use native.Mathlib.Omega.{arith}
+use lib.Dec.{eqb}
+use Rattle.record.specs.Choose.{if, either}
+use Rattle.record.specs.Bytes.{size, byteOf, bigOf}
+use Rattle.record.specs.Forest.{Forest, none, node, forest}
+use Rattle.meaning.specs.Policy.{last, Conditions, noPart, part, compares, all, any, whenever, Trees}
+use Rattle.meaning.specs.Reading.{isKind, keyAt, testAt, matchAt, comparisonAt, rowOf, childrenAt, conjunctionAt, sectionAt, targetIn, notAt, conditionAt, conditionsIn, whenIn, ruleAt, rulesIn, obligationAt, obligationsIn, treeAt, treesIn}
+use Rattle.structure.specs.Subtrees.{Subtrees, noSubtree, subtree, recordAt, subtreesIn, subtreesOf, SameButSpan}
+use Rattle.structure.specs.ReadAlike.{ReadAlike, SameIsReadAlike}
+use Rattle.structure.proofs.Records.{kind-byte, choice-byte, later-byte, record-bytes}
+use Rattle.structure.proofs.Subtrees.{subtrees-same}
+
+-- a choice by the same test between the same things
+if-same : {A : Type 0} (p q : Bool) (x y v w : A) → p ≡ q → x ≡ v → y ≡ w → if p x y ≡ if q v w
+if-same p q x y v w e f g = rw (e, f, g) refl
+
+module _ (b c : List ℕ) where
+  -- two forests of one shape, whose records differ in nothing but their spans
+  pub data AlikeForests : Forest → Forest → Type 0 where
+    nones : AlikeForests none none
+    nodes : {i j : ℕ} {below below′ rest rest′ : Forest} → SameButSpan b i c j → AlikeForests below below′ → AlikeForests rest rest′
+        → AlikeForests (node i below rest) (node j below′ rest′)
+
+  module _ (i j : ℕ) (h : SameButSpan b i c j) where
+    big-same : (a n : ℕ) → 4 ≤ a → a + n ≤ size → bigOf b (i * size + a) n ≡ bigOf c (j * size + a) n
+    unfolding bigOf
+    big-same a zero m l = refl
+    big-same a (suc n) m l =
+        let x : i * size + a + n ≡ i * size + (a + n) = omega arith in
+        let y : j * size + a + n ≡ j * size + (a + n) = omega arith in
+        rw (x, y, later-byte b i c j h (a + n) (omega arith) (omega arith), big-same a n m (omega arith)) refl
+
+    kind-is : (k : ℕ) → isKind b i k ≡ isKind c j k
+    kind-is k = ap (λ (x : ℕ). eqb x k) (kind-byte b i c j h)
+
+    choice-same : byteOf b i 1 ≡ byteOf c j 1
+    choice-same = choice-byte b i c j h
+
+    test-same : (f : ℕ) → testAt b i f ≡ testAt c j f
+    unfolding testAt keyAt
+    test-same f =
+        let x : (k : ℕ) → 4 ≤ k → k < size → byteOf b i k ≡ byteOf c j k = later-byte b i c j h in
+        rw (x 4 (omega arith) (omega arith), x 5 (omega arith) (omega arith), x 6 (omega arith) (omega arith), x 7 (omega arith) (omega arith), big-same 8 8 (omega arith) (omega arith)) refl
+
+    match-same : matchAt b i ≡ matchAt c j
+    unfolding matchAt
+    match-same = ap (testAt b i) choice-same ∙ test-same (byteOf c j 1)
+
+    comparison-same : comparisonAt b i ≡ comparisonAt c j
+    unfolding comparisonAt
+    comparison-same = ap (λ (x : ℕ). testAt b i (x - 10)) choice-same ∙ test-same (byteOf c j 1 - 10)
+
+    not-same : (cs : Conditions) → notAt b i cs ≡ notAt c j cs
+    not-same noPart = ap compares comparison-same
+    not-same (part x xs) = refl
+
+    condition-same : (cs ds : Conditions) → cs ≡ ds → conditionAt b i cs ≡ conditionAt c j ds
+    unfolding conditionAt
+    condition-same cs ds e =
+        let choice : (k : ℕ) → eqb (byteOf b i 1) k ≡ eqb (byteOf c j 1) k = λ k. ap (λ (x : ℕ). eqb x k) choice-same in
+        if-same _ _ _ _ _ _ (choice 1) (ap all e)
+        (if-same _ _ _ _ _ _ (choice 2) (ap any e)
+        (if-same _ _ _ _ _ _ (choice 3) (ap (notAt b i) e ∙ not-same ds) (ap compares comparison-same)))
+
+    obligation-same : obligationAt b i ≡ obligationAt c j
+    obligation-same = rw (choice-same, big-same 6 2 (omega arith) (omega arith)) refl
+
+  -- children that are read by functions that agree
+  module _ {A : Type 0} (f g : ℕ → Forest → A) (same : (i j : ℕ) (x y : Forest) → SameButSpan b i c j → AlikeForests x y → f i x ≡ g j y) where
+    row-same : (i j : ℕ) (x y : Forest) {r s : Forest} → SameButSpan b i c j → AlikeForests x y → AlikeForests r s → rowOf f i x r ≡ rowOf g j y s
+    unfolding rowOf
+    row-same i j x y h a nones = ap last (same i j x y h a)
+    row-same i j x y h a (nodes {i = m} {j = n} {below = v} {below′ = w} k p q) = rw (same i j x y h a, row-same m n v w k p q) refl
+
+    children-same : (i j : ℕ) {x y : Forest} → SameButSpan b i c j → AlikeForests x y → childrenAt f i x ≡ childrenAt g j y
+    unfolding childrenAt
+    children-same i j h nones = ap last (same i j none none h nones)
+    children-same i j h (nodes {i = m} {j = n} {below = v} {below′ = w} k p q) = row-same m n v w k p q
+
+  conjunction-same : (i j : ℕ) (x y : Forest) → SameButSpan b i c j → AlikeForests x y → conjunctionAt b i x ≡ conjunctionAt c j y
+  unfolding conjunctionAt
+  conjunction-same i j x y h a =
+      children-same (λ (k : ℕ) (z : Forest). matchAt b k) (λ (k : ℕ) (z : Forest). matchAt c k) (λ m n v w k p. match-same m n k) i j h a
+
+  section-same : (i j : ℕ) (x y : Forest) → SameButSpan b i c j → AlikeForests x y → sectionAt b i x ≡ sectionAt c j y
+  unfolding sectionAt
+  section-same i j x y h a = children-same (conjunctionAt b) (conjunctionAt c) conjunction-same i j h a
+
+  target-same : {x y : Forest} → AlikeForests x y → targetIn b x ≡ targetIn c y
+  unfolding targetIn
+  target-same nones = refl
+  target-same (nodes {i = i} {j = j} {below = v} {below′ = w} h p q) =
+      if-same _ _ _ _ _ _ (kind-is i j h 4) (rw (section-same i j v w h p, target-same q) refl) refl
+
+  conditions-same : {x y : Forest} → AlikeForests x y → conditionsIn b x ≡ conditionsIn c y
+  unfolding conditionsIn
+  conditions-same nones = refl
+  conditions-same (nodes {i = i} {j = j} h p q) = rw (condition-same i j h _ _ (conditions-same p), conditions-same q) refl
+
+  when-same : {x y : Forest} → AlikeForests x y → whenIn b x ≡ whenIn c y
+  unfolding whenIn
+  when-same nones = refl
+  when-same (nodes {i = i} {j = j} h p q) =
+      if-same _ _ _ _ _ _ (kind-is i j h 7) (ap whenever (condition-same i j h _ _ (conditions-same p))) (when-same q)
+
+  rule-same : (i j : ℕ) (x y : Forest) → SameButSpan b i c j → AlikeForests x y → ruleAt b i x ≡ ruleAt c j y
+  unfolding ruleAt
+  rule-same i j x y h a = rw (choice-same i j h, target-same a, when-same a) refl
+
+  rules-same : {x y : Forest} → AlikeForests x y → rulesIn b x ≡ rulesIn c y
+  unfolding rulesIn
+  rules-same nones = refl
+  rules-same (nodes {i = i} {j = j} {below = v} {below′ = w} h p q) =
+      if-same _ _ _ _ _ _ (kind-is i j h 3) (rw (rule-same i j v w h p, rules-same q) refl) (rules-same q)
+
+  obligations-same : {x y : Forest} → AlikeForests x y → obligationsIn b x ≡ obligationsIn c y
+  unfolding obligationsIn
+  obligations-same nones = refl
+  obligations-same (nodes {i = i} {j = j} h p q) =
+      if-same _ _ _ _ _ _ (kind-is i j h 8) (rw (obligation-same i j h, obligations-same q) refl) (obligations-same q)
+
+  -- the policy or set at a record
+  pub policy-same : (i j : ℕ) (x y : Forest) (ns ms : Trees) → SameButSpan b i c j → AlikeForests x y → ns ≡ ms → treeAt b i x ns ≡ treeAt c j y ms
+  unfolding treeAt
+  policy-same i j x y ns ms h a e =
+      if-same _ _ _ _ _ _ (kind-is i j h 1)
+      (rw (choice-same i j h, target-same a, e, obligations-same a) refl)
+      (rw (choice-same i j h, target-same a, rules-same a, obligations-same a) refl)
+
+  policies-same : {x y : Forest} → AlikeForests x y → treesIn b x ≡ treesIn c y
+  unfolding treesIn
+  policies-same nones = refl
+  policies-same (nodes {i = i} {j = j} {below = v} {below′ = w} h p q) =
+      if-same _ _ _ _ _ _ (ap (λ (n : ℕ). either (eqb n 1) (eqb n 2)) (kind-byte b i c j h))
+      (rw (policy-same i j v w _ _ h p (policies-same p), policies-same q) refl) (policies-same q)
+
+pub alike-is-read-alike : (b c : List ℕ) {f g : Forest} → AlikeForests b c f g → ReadAlike b f c g
+alike-is-read-alike b c a =
+    record {
+      target = target-same b c a;
+      conditions = conditions-same b c a;
+      condition = when-same b c a;
+      rules = rules-same b c a;
+      obligations = obligations-same b c a;
+      policies = policies-same b c a;
+    }
+
+-- forests that are the same subtrees are alike
+no-path : {A : Type 0} (r : List ℕ) (x y : Subtrees) → noSubtree ≡ subtree r x y → A
+no-path r x y e = let z : _≡_ {A = ℕ} 0 1 = cc in absurd (omega arith)
+
+nodes-alike : (b c : List ℕ) (i j : ℕ) (x y r s : Forest) → subtree (recordAt b i) (subtreesIn b x) (subtreesIn b r) ≡ subtree (recordAt c j) (subtreesIn c y) (subtreesIn c s)
+    → (recordAt b i ≡ recordAt c j) × (subtreesIn b x ≡ subtreesIn c y) × (subtreesIn b r ≡ subtreesIn c s)
+nodes-alike b c i j x y r s e = ((cc), (cc), (cc))
+
+records-alike : (b c : List ℕ) (i j : ℕ) → recordAt b i ≡ recordAt c j → SameButSpan b i c j
+records-alike b c i j e k l x y = sym (record-bytes b i k l) ∙ ap (λ (r : List ℕ). byteOf r 0 k) e ∙ record-bytes c j k l
+
+pub subtrees-alike : (b c : List ℕ) (f g : Forest) → subtreesIn b f ≡ subtreesIn c g → AlikeForests b c f g
+unfolding subtreesIn
+subtrees-alike b c none none e = nones
+subtrees-alike b c none (node j y s) e = no-path (recordAt c j) (subtreesIn c y) (subtreesIn c s) e
+subtrees-alike b c (node i x r) none e = no-path (recordAt b i) (subtreesIn b x) (subtreesIn b r) (sym e)
+subtrees-alike b c (node i x r) (node j y s) e =
+    let z = nodes-alike b c i j x y r s e in
+    nodes (records-alike b c i j (z .0)) (subtrees-alike b c x y (z .1)) (subtrees-alike b c r s (z .2))
+
+pub same-is-read-alike : SameIsReadAlike
+unfolding subtreesOf
+same-is-read-alike b i c j s h = alike-is-read-alike b c (subtrees-alike b c (forest b i s) (forest c j s) (subtrees-same b i c j s h))

@@ -1,0 +1,4 @@
+pub mod Subtrees
+pub mod Sound
+pub mod Claims
+pub mod ReadAlike
