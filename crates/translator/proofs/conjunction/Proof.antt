@@ -1,33 +1,37 @@
-use Rattle.translator.proofs.Emit.{as-is, fits-as, conjunction-one, conjunction-more}
+use Prim.Native.Nat.{ℕ, suc, _+_, _-_, _*_, _/_, _<_, _≤_}
+use mathlib.Core.Path.{refl, sym, _∙_}
+use native.Mathlib.Omega.{arith}
 use borrow.Author.Needs.{needs}
+use Rattle.translator.proofs.Turns.{conjunction-one, conjunction-more}
+use Rattle.translator.proofs.Emit.{as-is, fits-as}
 use Rattle.translator.proofs.conjunction.Statement.{statement}
 use Rattle.translator.proofs.conjunction.Tie as tie
+use Rattle.translator.proofs.conjunction.Reads as reads
+use Rattle.translator.proofs.conjunction.Lts as lts
+use Rattle.translator.proofs.match_entry.Reads as match-entry-reads
+use Rattle.translator.proofs.matches.Reads as matches-reads
 
-matches-requires : tie.Need-matches-requires
-matches-requires c κs = (search needs, search needs, fits-as _ (conjunction-one _ _ _ _ _ _ _ (c .before .if1 .taken)) (c .before .before .before .before .pre .2), search needs, search needs)
+match-entry-requires : tie.Need-match-entry-requires
+match-entry-requires c κs = (search needs, fits-as _ (conjunction-one _ _ _ _ _ _ _ (c .before .if1 .taken)) (c .before .before .before .before .pre .3), search needs, search needs, search needs)
 
 returns : tie.Need-returns
-returns c = as-is (conjunction-one _ _ _ _ _ _ _ (c .before .before .before .before .if1 .taken)) (c .before .before .matches .ensures)
+returns c = as-is (conjunction-one _ _ _ _ _ _ _ (c .before .before .before .before .if1 .taken)) (c .before .before .match-entry .ensures)
 
-matches-requires-2 : tie.Need-matches-requires-2
-matches-requires-2 c κs = (search needs, search needs, fits-as _ (conjunction-more _ _ _ _ _ _ _ _ (c .before .before .before .before .before .pre .0) (c .before .before .if1 .left) (c .before .span-in .ensures .0)) (c .before .before .before .before .before .pre .2), search needs, search needs)
+matches-requires : tie.Need-matches-requires
+matches-requires c κs = (omega (arith, c .before .before .before .before .pre .0, c .before .if1 .left), search needs, search needs, fits-as _ (conjunction-more _ _ _ _ _ _ _ (c .before .before .before .before .pre .0) (c .before .if1 .left)) (c .before .before .before .before .pre .3), search needs, search needs, c .before .before .before .before .pre .6)
 
 returns-2 : tie.Need-returns-2
-returns-2 c = as-is (conjunction-more _ _ _ _ _ _ _ _ (c .before .before .before .before .before .before .before .before .pre .0) (c .before .before .before .before .before .if1 .left) (c .before .before .before .before .span-in .ensures .0)) (c .before .before .matches2 .ensures)
+returns-2 c = as-is (conjunction-more _ _ _ _ _ _ _ (c .before .before .before .before .before .before .before .pre .0) (c .before .before .before .before .if1 .left)) (c .before .before .matches .ensures)
 
 pub conjunction-spec : {M : Type 1} → statement M
 conjunction-spec =
     tie.close
     (tie.spec
-    matches-requires
+    (λ c. search needs)
+    match-entry-requires
     (λ c. search needs)
     returns
     (λ c. search needs)
-    (λ c. search needs)
-    (λ c κs. search needs)
-    (λ c. search needs)
-    (λ c. search needs)
-    (λ c. search needs)
-    matches-requires-2
+    matches-requires
     (λ c. search needs)
     returns-2)

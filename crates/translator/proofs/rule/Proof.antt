@@ -1,20 +1,31 @@
-use Rattle.translator.proofs.Emit.{third-fits, second-fits, first-fits, three, behind, effect-at, ruled, rule-parts}
-use mathlib.Core.Path.{refl}
+use Prim.Native.Nat.{ℕ, suc, _+_, _-_, _*_, _/_, _<_, _≤_}
+use mathlib.Core.Path.{refl, sym, _∙_}
+use native.Mathlib.Omega.{arith}
 use borrow.Author.Needs.{needs}
+use Rattle.translator.proofs.Links.{linked-below}
+use Rattle.translator.proofs.Turns.{rule-to}
+use Rattle.translator.proofs.Emit.{third-fits, second-fits, first-fits, three, behind, ruled, effect-at}
 use Rattle.translator.proofs.rule.Statement.{statement}
 use Rattle.translator.proofs.rule.Tie as tie
+use Rattle.translator.proofs.rule.Reads as reads
+use Rattle.translator.proofs.rule.Lts as lts
+use Rattle.record.proofs.byte.Reads as byte-reads
+use Rattle.translator.proofs.effect_code.Reads as effect-code-reads
+use Rattle.translator.proofs.single.Reads as single-reads
+use Rattle.translator.proofs.target.Reads as target-reads
+use Rattle.translator.proofs.when.Reads as when-reads
 
 single-requires : tie.Need-single-requires
-single-requires c κs = (third-fits (rule-parts _ _ _ _ _ refl) _ (c .before .before .before .before .before .pre .2), search needs, search needs)
+single-requires c κs = (third-fits (rule-to _ _ _ _ _ refl) _ (c .before .before .before .before .before .pre .3), search needs, search needs)
 
 when-requires : tie.Need-when-requires
-when-requires c κs = (search needs, second-fits (rule-parts _ _ _ _ _ refl) (c .before .before .before .before .before .before .before .before .before .pre .2) (ruled _ _ (effect-at (c .before .before .before .before .before .before .byte .ensures .0) (c .before .before .before .before .before .effect-code .ensures .0)) (c .before .before .before .single .ensures)), search needs)
+when-requires c κs = (search needs, search needs, search needs, second-fits (rule-to _ _ _ _ _ refl) (c .before .before .before .before .before .before .before .before .before .pre .3) (ruled _ _ (effect-at (c .before .before .before .before .before .before .byte .ensures .0) (c .before .before .before .before .before .effect-code .ensures .0)) (c .before .before .before .single .ensures)), search needs, linked-below _ _ _ _ (c .before .before .before .before .before .before .before .before .before .pre .5))
 
 target-requires : tie.Need-target-requires
-target-requires c κs = (search needs, first-fits (rule-parts _ _ _ _ _ (behind (c .before .before .before .when .ensures))) (c .before .before .before .before .before .before .before .before .before .before .before .before .before .pre .2) (ruled _ _ (effect-at (c .before .before .before .before .before .before .before .before .before .before .byte .ensures .0) (c .before .before .before .before .before .before .before .before .before .effect-code .ensures .0)) (c .before .before .before .before .before .before .before .single .ensures)) (c .before .before .before .when .ensures), search needs)
+target-requires c κs = (search needs, search needs, search needs, first-fits (rule-to _ _ _ _ _ (behind (c .before .before .before .when .ensures))) (c .before .before .before .before .before .before .before .before .before .before .before .before .before .pre .3) (ruled _ _ (effect-at (c .before .before .before .before .before .before .before .before .before .before .byte .ensures .0) (c .before .before .before .before .before .before .before .before .before .effect-code .ensures .0)) (c .before .before .before .before .before .before .before .single .ensures)) (c .before .before .before .when .ensures), search needs, linked-below _ _ _ _ (c .before .before .before .before .before .before .before .before .before .before .before .before .before .pre .5))
 
 returns : tie.Need-returns
-returns c = three (rule-parts _ _ _ _ _ (behind (c .before .before .before .before .before .before .when .ensures))) (ruled _ _ (effect-at (c .before .before .before .before .before .before .before .before .before .before .before .before .before .byte .ensures .0) (c .before .before .before .before .before .before .before .before .before .before .before .before .effect-code .ensures .0)) (c .before .before .before .before .before .before .before .before .before .before .single .ensures)) (c .before .before .before .before .before .before .when .ensures) (c .before .before .target .ensures)
+returns c = three (rule-to _ _ _ _ _ (behind (c .before .before .before .before .before .before .when .ensures))) (ruled _ _ (effect-at (c .before .before .before .before .before .before .before .before .before .before .before .before .before .byte .ensures .0) (c .before .before .before .before .before .before .before .before .before .before .before .before .effect-code .ensures .0)) (c .before .before .before .before .before .before .before .before .before .before .single .ensures)) (c .before .before .before .before .before .before .when .ensures) (c .before .before .target .ensures)
 
 pub rule-spec : {M : Type 1} → statement M
 rule-spec =
@@ -26,9 +37,7 @@ rule-spec =
     (λ c. search needs)
     single-requires
     (λ c. search needs)
-    (λ c. search needs)
     when-requires
-    (λ c. search needs)
     (λ c. search needs)
     (λ c. search needs)
     target-requires

@@ -20,6 +20,11 @@ use Rattle.translator.specs.Translate.{programmeOf, roomFor, translateOf
 use Rattle.translator.specs.declared.Translated.the-variants.{Entries, Refused}
 use Rattle.translator.proofs.translate.Statement.{statement}
 use Rattle.translator.proofs.translate.Tie as tie
+use Rattle.translator.proofs.translate.Reads as reads
+use Rattle.translator.proofs.translate.Lts as lts
+use Rattle.judge.proofs.judge_book.Reads as judge-book-reads
+use Rattle.record.proofs.no_room.Reads as no-room-reads
+use Rattle.translator.proofs.write.Reads as write-reads
 
 -- the three answers
 is-refused : (b : List ℕ) (room : ℕ) {r : Refusal} → judgeOf b ≡ judged.Refused r → Refused r ≡ translateOf b room
@@ -52,27 +57,16 @@ add-if1 : tie.Need-add-if1
 add-if1 c = omega (arith, size-of c .most)
 
 returns : tie.Need-returns
-returns c =
-    let l : length (c .before .before .before .before .before .before .before .before .args .out .now) < roomFor (c .before .before .before .judged2 .given .0 .0) = omega (arith, c .before .if1 .taken) in
-    (is-short _ _ (sym (c .before .before .before .before .before .judge-book .ensures) ∙ c .before .before .before .judged2 .given .1) l (c .no-room .ensures), refl)
+returns c = let l : length (c .before .before .before .before .before .before .before .before .args .out .now) < roomFor (c .before .before .before .judged2 .given .0 .0) = omega (arith, c .before .if1 .taken) in (is-short _ _ (sym (c .before .before .before .before .before .judge-book .ensures) ∙ c .before .before .before .judged2 .given .1) l (c .no-room .ensures), refl)
 
-entries-requires : tie.Need-entries-requires
-entries-requires c κs = let k = size-of (c .before) in (k .some, k .most, k .bytes)
-
-programme-requires : tie.Need-programme-requires
-programme-requires c κs =
-    let k = size-of (c .before .before .before) in
-    let e = c .before .entries .ensures in
-    (k .some, k .most, k .bytes, omega (arith, e), omega (arith, e, k .most))
+write-requires : tie.Need-write-requires
+write-requires c κs = let k = size-of (c .before .before) in (k .some, k .most, k .bytes, omega (arith, c .before .if1 .left))
 
 returns-2 : tie.Need-returns-2
 returns-2 c = (is-refused _ _ (sym (c .before .before .before .judge-book .ensures) ∙ c .before .judged .given .1), refl)
 
 returns-3 : tie.Need-returns-3
-returns-3 c =
-    let l : roomFor (c .before .before .before .before .before .before .before .judged2 .given .0 .0) ≤ length (c .before .before .before .before .before .before .before .before .before .before .before .before .args .out .now) = omega (arith, c .before .before .before .before .before .if1 .left) in
-    is-written _ (sym (c .before .before .before .before .before .before .before .before .before .judge-book .ensures) ∙ c .before .before .before .before .before .before .before .judged2 .given .1)
-    l (c .before .before .before .before .entries .ensures .0) (c .before .before .before .before .entries .ensures .1) (c .before .before .programme .ensures)
+returns-3 c = let l : roomFor (c .before .before .before .before .before .before .judged2 .given .0 .0) ≤ length (c .before .before .before .before .before .before .before .before .before .before .before .args .out .now) = omega (arith, c .before .before .before .before .if1 .left) in is-written _ (sym (c .before .before .before .before .before .before .before .before .judge-book .ensures) ∙ c .before .before .before .before .before .before .judged2 .given .1) l (c .before .before .write .ensures .0) (c .before .before .write .ensures .1) (c .before .before .write .ensures .2)
 
 pub translate-spec : {M : Type 1} → statement M
 translate-spec =
@@ -85,8 +79,7 @@ translate-spec =
     add-if1
     (λ c κs. search needs)
     returns
-    entries-requires
-    programme-requires
+    write-requires
     returns-2
     (λ c. search needs)
     returns-3)
