@@ -1,15 +1,9 @@
-use Prim.Native.Nat.{ℕ, suc, _+_, _-_, _*_, _/_, _<_, _≤_}
-use mathlib.Core.Path.{refl, sym, _∙_}
 use native.Mathlib.Omega.{arith}
 use borrow.Author.Needs.{needs}
 use Rattle.translator.proofs.Turns.{conjunction-one, conjunction-more}
 use Rattle.translator.proofs.Emit.{as-is, fits-as}
 use Rattle.translator.proofs.conjunction.Statement.{statement}
 use Rattle.translator.proofs.conjunction.Tie as tie
-use Rattle.translator.proofs.conjunction.Reads as reads
-use Rattle.translator.proofs.conjunction.Lts as lts
-use Rattle.translator.proofs.match_entry.Reads as match-entry-reads
-use Rattle.translator.proofs.matches.Reads as matches-reads
 
 match-entry-requires : tie.Need-match-entry-requires
 match-entry-requires c κs = (search needs, fits-as _ (conjunction-one _ _ _ _ _ _ _ (c .before .if1 .taken)) (c .before .before .before .before .pre .3), search needs, search needs, search needs)

@@ -1,5 +1,4 @@
-use Prim.Native.Nat.{ℕ, suc, _+_, _-_, _*_, _/_, _<_, _≤_}
-use mathlib.Core.Path.{refl, sym, _∙_}
+use mathlib.Core.Path.{refl}
 use native.Mathlib.Omega.{arith}
 use borrow.Author.Needs.{needs}
 use Rattle.translator.proofs.Links.{piece-of, linked-at}
@@ -7,10 +6,6 @@ use Rattle.translator.proofs.Turns.{Going, go-begin, go-room, go-again,
 use Rattle.translator.proofs.Emit.{behind}
 use Rattle.translator.proofs.conjunctions.Statement.{statement}
 use Rattle.translator.proofs.conjunctions.Tie as tie
-use Rattle.translator.proofs.conjunctions.Reads as reads
-use Rattle.translator.proofs.conjunctions.Lts as lts
-use Rattle.translator.proofs.conjunction.Reads as conjunction-reads
-use Rattle.translator.proofs.elder.Reads as elder-reads
 
 abbrev Inv-loop : tie.InvT-loop
 Inv-loop book elders i stop l x out₀ end next₀ at₀ start₀ out next at start = Going book elders i stop next at (conjunctionsTo book stop l x next) end out₀ out start

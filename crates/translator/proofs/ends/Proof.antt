@@ -1,14 +1,8 @@
-use Prim.Native.Nat.{ℕ, suc, _+_, _-_, _*_, _/_, _<_, _≤_}
-use mathlib.Core.Path.{refl, sym, _∙_}
-use native.Mathlib.Omega.{arith}
 use borrow.Author.Needs.{needs}
 use Rattle.translator.proofs.Emit.{finished}
 use Rattle.translator.proofs.Turns.{Ending, ending-begin, ending-room, ending-more, ending-end, emitted-long}
 use Rattle.translator.proofs.ends.Statement.{statement}
 use Rattle.translator.proofs.ends.Tie as tie
-use Rattle.translator.proofs.ends.Reads as reads
-use Rattle.translator.proofs.ends.Lts as lts
-use Rattle.translator.proofs.single.Reads as single-reads
 
 abbrev Inv-loop : tie.InvT-loop
 Inv-loop out₀ end left start₀ due₀ out start due = Ending left due end out₀ out start

@@ -1,13 +1,7 @@
-use Prim.Native.Nat.{ℕ, suc, _+_, _-_, _*_, _/_, _<_, _≤_}
-use mathlib.Core.Path.{refl, sym, _∙_}
-use native.Mathlib.Omega.{arith}
 use borrow.Author.Needs.{needs}
 use Rattle.translator.proofs.Emit.{programme-short}
 use Rattle.translator.proofs.entries.Statement.{statement}
 use Rattle.translator.proofs.entries.Tie as tie
-use Rattle.translator.proofs.entries.Reads as reads
-use Rattle.translator.proofs.entries.Lts as lts
-use Rattle.translator.proofs.programme.Reads as programme-reads
 
 programme-requires : tie.Need-programme-requires
 programme-requires c κs = (search needs, search needs, search needs, programme-short _ _ (c .before .before .pre .2) (c .before .before .pre .0), search needs, c .before .before .pre .3, c .before .before .pre .4, c .before .before .pre .5, c .before .before .pre .6)

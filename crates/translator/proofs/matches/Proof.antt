@@ -1,5 +1,4 @@
-use Prim.Native.Nat.{ℕ, suc, _+_, _-_, _*_, _/_, _<_, _≤_}
-use mathlib.Core.Path.{refl, sym, _∙_}
+use mathlib.Core.Path.{refl}
 use native.Mathlib.Omega.{arith}
 use borrow.Author.Needs.{needs}
 use Rattle.translator.proofs.Links.{piece-of}
@@ -7,10 +6,6 @@ use Rattle.translator.proofs.Turns.{Going, go-begin, go-room, go-again,
 use Rattle.translator.proofs.Emit.{behind}
 use Rattle.translator.proofs.matches.Statement.{statement}
 use Rattle.translator.proofs.matches.Tie as tie
-use Rattle.translator.proofs.matches.Reads as reads
-use Rattle.translator.proofs.matches.Lts as lts
-use Rattle.translator.proofs.elder.Reads as elder-reads
-use Rattle.translator.proofs.match_entry.Reads as match-entry-reads
 
 abbrev Inv-loop : tie.InvT-loop
 Inv-loop book elders i stop c l n x out₀ end next₀ at₀ start₀ out next at start = Going book elders i stop next at (matchesTo book stop c l n x next) end out₀ out start

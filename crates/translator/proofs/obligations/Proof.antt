@@ -1,5 +1,3 @@
-use Prim.Native.Nat.{ℕ, suc, _+_, _-_, _*_, _/_, _<_, _≤_}
-use mathlib.Core.Path.{refl, sym, _∙_}
 use native.Mathlib.Omega.{arith}
 use borrow.Author.Needs.{needs}
 use Rattle.translator.proofs.Links.{piece-of}
@@ -7,13 +5,6 @@ use Rattle.translator.proofs.Turns.{Going, go-begin, go-room, go-again,
 use Rattle.translator.proofs.Emit.{nothing, same-as, differs, effect-at, obliged, obligations-none}
 use Rattle.translator.proofs.obligations.Statement.{statement}
 use Rattle.translator.proofs.obligations.Tie as tie
-use Rattle.translator.proofs.obligations.Reads as reads
-use Rattle.translator.proofs.obligations.Lts as lts
-use Rattle.record.proofs.big2.Reads as big2-reads
-use Rattle.record.proofs.byte.Reads as byte-reads
-use Rattle.translator.proofs.effect_code.Reads as effect-code-reads
-use Rattle.translator.proofs.elder.Reads as elder-reads
-use Rattle.translator.proofs.single.Reads as single-reads
 
 abbrev Inv-loop : tie.InvT-loop
 Inv-loop book elders i stop out₀ end next₀ at₀ start₀ out next at start = Going book elders i stop next at (obligationsTo book stop next) end out₀ out start

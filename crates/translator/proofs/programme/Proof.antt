@@ -1,17 +1,8 @@
-use Prim.Native.Nat.{ℕ, suc, _+_, _-_, _*_, _/_, _<_, _≤_}
-use mathlib.Core.Path.{refl, sym, _∙_}
-use native.Mathlib.Omega.{arith}
 use borrow.Author.Needs.{needs}
 use Rattle.translator.proofs.Turns.{programme-to}
-use Rattle.translator.proofs.Emit.{third-fits, second-fits, first-fits, three, begun}
+use Rattle.translator.proofs.Emit.{third-fits, second-fits, first-fits, three, code-of, begun}
 use Rattle.translator.proofs.programme.Statement.{statement}
 use Rattle.translator.proofs.programme.Tie as tie
-use Rattle.translator.proofs.programme.Reads as reads
-use Rattle.translator.proofs.programme.Lts as lts
-use Rattle.translator.proofs.algorithm_code.Reads as algorithm-code-reads
-use Rattle.translator.proofs.ends.Reads as ends-reads
-use Rattle.translator.proofs.single.Reads as single-reads
-use Rattle.translator.proofs.within.Reads as within-reads
 
 ends-requires : tie.Need-ends-requires
 ends-requires c κs = third-fits (programme-to _ _ (c .before .before .before .pre .2) (c .before .before .before .pre .7) (c .before .before .before .pre .8)) _ (c .before .before .before .pre .3)
@@ -20,10 +11,10 @@ within-requires : tie.Need-within-requires
 within-requires c κs = (search needs, search needs, search needs, second-fits (programme-to _ _ (c .before .before .before .before .before .before .before .pre .2) (c .before .before .before .before .before .before .before .pre .7) (c .before .before .before .before .before .before .before .pre .8)) (c .before .before .before .before .before .before .before .pre .3) (c .before .before .before .ends .ensures), search needs, c .before .before .before .before .before .before .before .pre .5)
 
 single-requires : tie.Need-single-requires
-single-requires c κs = (first-fits (programme-to _ _ (c .before .before .before .before .before .before .before .before .before .before .before .before .pre .2) (c .before .before .before .before .before .before .before .before .before .before .before .before .pre .7) (c .before .before .before .before .before .before .before .before .before .before .before .before .pre .8)) (c .before .before .before .before .before .before .before .before .before .before .before .before .pre .3) (c .before .before .before .before .before .before .before .before .ends .ensures) (c .before .before .before .before .within .ensures), search needs, search needs)
+single-requires c κs = (first-fits (programme-to _ _ (c .before .before .before .before .before .before .before .before .before .before .before .before .before .pre .2) (c .before .before .before .before .before .before .before .before .before .before .before .before .before .pre .7) (c .before .before .before .before .before .before .before .before .before .before .before .before .before .pre .8)) (c .before .before .before .before .before .before .before .before .before .before .before .before .before .pre .3) (c .before .before .before .before .before .before .before .before .before .ends .ensures) (c .before .before .before .before .before .within .ensures), search needs, search needs)
 
 returns : tie.Need-returns
-returns c = three (programme-to _ _ (c .before .before .before .before .before .before .before .before .before .before .before .before .before .before .before .pre .2) (c .before .before .before .before .before .before .before .before .before .before .before .before .before .before .before .pre .7) (c .before .before .before .before .before .before .before .before .before .before .before .before .before .before .before .pre .8)) (c .before .before .before .before .before .before .before .before .before .before .before .ends .ensures) (c .before .before .before .before .before .before .before .within .ensures) (begun _ _ (c .before .before .before .algorithm-code .ensures .0) (c .before .before .single .ensures))
+returns c = three (programme-to _ _ (c .before .before .before .before .before .before .before .before .before .before .before .before .before .before .before .before .pre .2) (c .before .before .before .before .before .before .before .before .before .before .before .before .before .before .before .before .pre .7) (c .before .before .before .before .before .before .before .before .before .before .before .before .before .before .before .before .pre .8)) (c .before .before .before .before .before .before .before .before .before .before .before .before .ends .ensures) (c .before .before .before .before .before .before .before .before .within .ensures) (begun _ _ (code-of (c .before .before .before .before .algorithm-code .ensures .0) (c .before .before .before .before .before .algorithm-at .ensures)) (c .before .before .single .ensures))
 
 pub programme-spec : {M : Type 1} → statement M
 programme-spec =
@@ -31,6 +22,7 @@ programme-spec =
     (tie.spec
     ends-requires
     within-requires
+    (λ c κs. search needs)
     (λ c κs. search needs)
     (λ c. search needs)
     (λ c. search needs)

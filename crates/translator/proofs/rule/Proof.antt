@@ -1,19 +1,10 @@
-use Prim.Native.Nat.{ℕ, suc, _+_, _-_, _*_, _/_, _<_, _≤_}
-use mathlib.Core.Path.{refl, sym, _∙_}
-use native.Mathlib.Omega.{arith}
+use mathlib.Core.Path.{refl}
 use borrow.Author.Needs.{needs}
 use Rattle.translator.proofs.Links.{linked-below}
 use Rattle.translator.proofs.Turns.{rule-to}
 use Rattle.translator.proofs.Emit.{third-fits, second-fits, first-fits, three, behind, ruled, effect-at}
 use Rattle.translator.proofs.rule.Statement.{statement}
 use Rattle.translator.proofs.rule.Tie as tie
-use Rattle.translator.proofs.rule.Reads as reads
-use Rattle.translator.proofs.rule.Lts as lts
-use Rattle.record.proofs.byte.Reads as byte-reads
-use Rattle.translator.proofs.effect_code.Reads as effect-code-reads
-use Rattle.translator.proofs.single.Reads as single-reads
-use Rattle.translator.proofs.target.Reads as target-reads
-use Rattle.translator.proofs.when.Reads as when-reads
 
 single-requires : tie.Need-single-requires
 single-requires c κs = (third-fits (rule-to _ _ _ _ _ refl) _ (c .before .before .before .before .before .pre .3), search needs, search needs)

@@ -1,5 +1,3 @@
-use Prim.Native.Nat.{ℕ, suc, _+_, _-_, _*_, _/_, _<_, _≤_}
-use mathlib.Core.Path.{refl, sym, _∙_}
 use native.Mathlib.Omega.{arith}
 use borrow.Author.Needs.{needs}
 use Rattle.translator.proofs.Links.{piece-of, linked-at}
@@ -7,11 +5,6 @@ use Rattle.translator.proofs.Turns.{Going, go-begin, go-room, go-again,
 use Rattle.translator.proofs.Emit.{nothing, same-as, differs, behind, rules-none}
 use Rattle.translator.proofs.rules_in.Statement.{statement}
 use Rattle.translator.proofs.rules_in.Tie as tie
-use Rattle.translator.proofs.rules_in.Reads as reads
-use Rattle.translator.proofs.rules_in.Lts as lts
-use Rattle.record.proofs.byte.Reads as byte-reads
-use Rattle.translator.proofs.elder.Reads as elder-reads
-use Rattle.translator.proofs.rule.Reads as rule-reads
 
 abbrev Inv-loop : tie.InvT-loop
 Inv-loop book elders i stop out₀ end next₀ at₀ start₀ out next at start = Going book elders i stop next at (rulesTo book stop next) end out₀ out start

@@ -20,11 +20,6 @@ use Rattle.translator.specs.Translate.{programmeOf, roomFor, translateOf
 use Rattle.translator.specs.declared.Translated.the-variants.{Entries, Refused}
 use Rattle.translator.proofs.translate.Statement.{statement}
 use Rattle.translator.proofs.translate.Tie as tie
-use Rattle.translator.proofs.translate.Reads as reads
-use Rattle.translator.proofs.translate.Lts as lts
-use Rattle.judge.proofs.judge_book.Reads as judge-book-reads
-use Rattle.record.proofs.no_room.Reads as no-room-reads
-use Rattle.translator.proofs.write.Reads as write-reads
 
 -- the three answers
 is-refused : (b : List ℕ) (room : ℕ) {r : Refusal} → judgeOf b ≡ judged.Refused r → Refused r ≡ translateOf b room

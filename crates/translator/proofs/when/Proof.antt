@@ -1,18 +1,11 @@
-use Prim.Native.Nat.{ℕ, suc, _+_, _-_, _*_, _/_, _<_, _≤_}
-use mathlib.Core.Path.{refl, sym, _∙_}
-use native.Mathlib.Omega.{arith}
+use Prim.Native.Nat.{_-_}
+use mathlib.Core.Path.{refl}
 use borrow.Author.Needs.{needs}
 use Rattle.translator.proofs.Links.{below-first}
 use Rattle.translator.proofs.Turns.{Seeking, seek-on, seek-long, seek-found, when-here, when-stop, emitted-long}
-use Rattle.translator.proofs.Emit.{nothing, as-is, fits-as, same-as, differs}
-use Rattle.record.proofs.Forests.{span-pos, span-le}
+use Rattle.translator.proofs.Emit.{nothing, fits-as, same-as, differs}
 use Rattle.translator.proofs.when.Statement.{statement}
 use Rattle.translator.proofs.when.Tie as tie
-use Rattle.translator.proofs.when.Reads as reads
-use Rattle.translator.proofs.when.Lts as lts
-use Rattle.record.proofs.byte.Reads as byte-reads
-use Rattle.record.proofs.span_in.Reads as span-in-reads
-use Rattle.translator.proofs.condition.Reads as condition-reads
 
 abbrev Inv-loop : tie.InvT-loop
 Inv-loop book elders i stop out₀ end at₀ out at = Seeking book elders i stop at out₀ out

@@ -1,17 +1,8 @@
-use Prim.Native.Nat.{ℕ, suc, _+_, _-_, _*_, _/_, _<_, _≤_}
-use mathlib.Core.Path.{refl, sym, _∙_}
 use native.Mathlib.Omega.{arith}
 use borrow.Author.Needs.{needs}
 use Rattle.translator.proofs.Turns.{due-by, from-first}
 use Rattle.translator.proofs.write.Statement.{statement}
 use Rattle.translator.proofs.write.Tie as tie
-use Rattle.translator.proofs.write.Reads as reads
-use Rattle.translator.proofs.write.Lts as lts
-use Rattle.record.proofs.byte.Reads as byte-reads
-use Rattle.translator.proofs.due.Reads as due-reads
-use Rattle.translator.proofs.entries.Reads as entries-reads
-use Rattle.translator.proofs.link.Reads as link-reads
-use Rattle.translator.proofs.programme.Reads as programme-reads
 
 entries-requires : tie.Need-entries-requires
 entries-requires c κs = (c .before .before .before .before .before .before .before .before .pre .0, c .before .before .before .before .before .before .before .before .pre .1, c .before .before .before .before .before .before .before .before .pre .2, c .before .before .before .before .link .ensures .0, omega (arith, c .before .before .due .ensures .1, c .before .before .before .before .before .before .before .before .pre .1), due-by _ _ _ (c .before .before .before .byte .ensures .0) (c .before .before .due .ensures .0), due-by _ _ _ (c .before .before .before .byte .ensures .0) (c .before .due2 .ensures .0))
