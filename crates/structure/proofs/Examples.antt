@@ -4,11 +4,12 @@ use mathlib.Core.Bool.{Bool, true, false}
 use mathlib.Core.List.{List, [], _∷_}
 use Prim.Native.Nat.{ℕ}
 use lib.ListN.{set}
-use Rattle.record.specs.Bytes.{spanOf}
+use Rattle.record.specs.Bytes.{spanOf, bigOf}
 use Rattle.record.specs.Below.{allBelow}
 use Rattle.record.specs.Forest.{spanIn, growF, forest}
 use Rattle.record.specs.Table.{tab}
 use Rattle.record.proofs.BookA.{bytes, lines, bookA}
+use Rattle.value.specs.Value.{finiteOf}
 use Rattle.fields.specs.Fields.{kindOf, kindAt, typeOf, typeAt, finite, zeros, plainOk, sectionOk, comparesOk, obligationOk, fieldOk}
 use Rattle.judge.specs.Place.{holdsConditions, singleOf, rankAt, standsOk}
 use Rattle.judge.proofs.Examples.{nested}
@@ -37,7 +38,7 @@ judged =
     ∷ soundAt (lineOne (nested 1)) 5 denies 0 2 ∷ []
 
 computed : judged ≡ true ∷ false ∷ false ∷ true ∷ false ∷ true ∷ false ∷ true ∷ []
-unfolding bytes lines bookA a nested denies judged spanOf allBelow spanIn growF forest kindOf kindAt typeOf typeAt finite zeros plainOk sectionOk comparesOk obligationOk fieldOk tab holdsConditions singleOf rankAt standsOk recordCount recordAt subtreesIn subtreesOf recordOk childOk sound soundBook soundAt sliceOf
+unfolding bytes lines bookA a nested denies judged spanOf allBelow spanIn growF forest kindOf kindAt typeOf typeAt finite bigOf finiteOf zeros plainOk sectionOk comparesOk obligationOk fieldOk tab holdsConditions singleOf rankAt standsOk recordCount recordAt subtreesIn subtreesOf recordOk childOk sound soundBook soundAt sliceOf
 computed = refl
 
 -- book A with a wrong span on line 1, read, and written with its spans

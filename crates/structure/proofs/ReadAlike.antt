@@ -6,13 +6,13 @@ use Prim.Native.Nat.{ℕ, zero, suc, _+_, _-_, _*_, _≤_, _<_}
 use native.Mathlib.Omega.{arith}
 use lib.Dec.{eqb}
 use Rattle.record.specs.Choose.{if, either}
-use Rattle.record.specs.Bytes.{size, byteOf, bigOf}
+use Rattle.record.specs.Bytes.{size, byteOf}
 use Rattle.record.specs.Forest.{Forest, none, node, forest}
 use Rattle.meaning.specs.Policy.{last, Conditions, noPart, part, compares, all, any, whenever, Trees}
 use Rattle.meaning.specs.Reading.{isKind, keyAt, testAt, matchAt, comparisonAt, rowOf, childrenAt, conjunctionAt, sectionAt, targetIn, notAt, conditionAt, conditionsIn, whenIn, ruleAt, rulesIn, obligationAt, obligationsIn, treeAt, treesIn}
 use Rattle.structure.specs.Subtrees.{Subtrees, noSubtree, subtree, recordAt, subtreesIn, subtreesOf, SameButSpan}
 use Rattle.structure.specs.ReadAlike.{ReadAlike, SameIsReadAlike}
-use Rattle.structure.proofs.Records.{kind-byte, choice-byte, later-byte, record-bytes}
+use Rattle.structure.proofs.Records.{kind-byte, choice-byte, later-byte, big-same, record-bytes}
 use Rattle.structure.proofs.Subtrees.{subtrees-same}
 
 -- a choice by the same test between the same things
@@ -27,14 +27,6 @@ module _ (b c : List ℕ) where
         → AlikeForests (node i below rest) (node j below′ rest′)
 
   module _ (i j : ℕ) (h : SameButSpan b i c j) where
-    big-same : (a n : ℕ) → 4 ≤ a → a + n ≤ size → bigOf b (i * size + a) n ≡ bigOf c (j * size + a) n
-    unfolding bigOf
-    big-same a zero m l = refl
-    big-same a (suc n) m l =
-        let x : i * size + a + n ≡ i * size + (a + n) = omega arith in
-        let y : j * size + a + n ≡ j * size + (a + n) = omega arith in
-        rw (x, y, later-byte b i c j h (a + n) (omega arith) (omega arith), big-same a n m (omega arith)) refl
-
     kind-is : (k : ℕ) → isKind b i k ≡ isKind c j k
     kind-is k = ap (λ (x : ℕ). eqb x k) (kind-byte b i c j h)
 
@@ -45,7 +37,7 @@ module _ (b c : List ℕ) where
     unfolding testAt keyAt
     test-same f =
         let x : (k : ℕ) → 4 ≤ k → k < size → byteOf b i k ≡ byteOf c j k = later-byte b i c j h in
-        rw (x 4 (omega arith) (omega arith), x 5 (omega arith) (omega arith), x 6 (omega arith) (omega arith), x 7 (omega arith) (omega arith), big-same 8 8 (omega arith) (omega arith)) refl
+        rw (x 4 (omega arith) (omega arith), x 5 (omega arith) (omega arith), x 6 (omega arith) (omega arith), x 7 (omega arith) (omega arith), big-same b i c j h 8 8 (omega arith) (omega arith)) refl
 
     match-same : matchAt b i ≡ matchAt c j
     unfolding matchAt
@@ -68,7 +60,7 @@ module _ (b c : List ℕ) where
         (if-same _ _ _ _ _ _ (choice 3) (ap (notAt b i) e ∙ not-same ds) (ap compares comparison-same)))
 
     obligation-same : obligationAt b i ≡ obligationAt c j
-    obligation-same = rw (choice-same, big-same 6 2 (omega arith) (omega arith)) refl
+    obligation-same = rw (choice-same, big-same b i c j h 6 2 (omega arith) (omega arith)) refl
 
   -- children that are read by functions that agree
   module _ {A : Type 0} (f g : ℕ → Forest → A) (same : (i j : ℕ) (x y : Forest) → SameButSpan b i c j → AlikeForests x y → f i x ≡ g j y) where

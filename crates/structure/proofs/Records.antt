@@ -3,14 +3,14 @@ use mathlib.Core.Path.{_≡_, refl, sym, ap, _∙_}
 use mathlib.Core.Bool.{true}
 use mathlib.Core.List.{List}
 use mathlib.Core.Logic.{_⊎_, inl, inr}
-use Prim.Native.Nat.{ℕ, suc, _+_, _-_, _≤_, _<_}
+use Prim.Native.Nat.{ℕ, suc, _+_, _-_, _≤_, _<_, zero, _*_}
 use native.Mathlib.Nat.{zero-add}
 use native.Mathlib.Omega.{arith}
 use lib.Dec.{eqb, ltb}
 use lib.ListN.{length}
 use borrow.Author.Tests.{eq-eqb, eqb-true, lt-ltb, ltb-true}
 use Rattle.record.specs.Choose.{both, among}
-use Rattle.record.specs.Bytes.{size, byteOf, spanOf}
+use Rattle.record.specs.Bytes.{size, byteOf, spanOf, bigOf}
 use Rattle.record.proofs.Choose.{both-parts, no-false}
 use Rattle.record.proofs.Below.{all-same}
 use Rattle.record.proofs.Table.{length-tab, getD-tab}
@@ -45,6 +45,14 @@ module _ (b : List ℕ) (i : ℕ) (c : List ℕ) (j : ℕ) (h : SameButSpan b i 
 
   pub later-byte : (k : ℕ) → 4 ≤ k → k < size → byteOf b i k ≡ byteOf c j k
   later-byte k a l = h k l (λ x. omega arith) (λ x. omega arith)
+
+  pub big-same : (a n : ℕ) → 4 ≤ a → a + n ≤ size → bigOf b (i * size + a) n ≡ bigOf c (j * size + a) n
+  unfolding bigOf
+  big-same a zero m l = refl
+  big-same a (suc n) m l =
+      let x : i * size + a + n ≡ i * size + (a + n) = omega arith in
+      let y : j * size + a + n ≡ j * size + (a + n) = omega arith in
+      rw (x, y, later-byte (a + n) (omega arith) (omega arith), big-same a n m (omega arith)) refl
 
   pub kind-same : kindAt b i ≡ kindAt c j
   unfolding kindAt
@@ -86,7 +94,7 @@ module _ (b : List ℕ) (i : ℕ) (c : List ℕ) (j : ℕ) (h : SameRecord b i c
 
   compares-same : (f : ℕ) → comparesOk b i f ≡ comparesOk c j f
   unfolding comparesOk typeAt finite
-  compares-same f = rw (span-same, h 4 (omega arith), h 5 (omega arith), h 8 (omega arith), h 9 (omega arith)) refl
+  compares-same f = rw (span-same, h 4 (omega arith), h 5 (omega arith), big-same b i c j (but-span b i c j h) 8 8 (omega arith) (omega arith)) refl
 
   obligation-same : obligationOk b i ≡ obligationOk c j
   unfolding obligationOk
