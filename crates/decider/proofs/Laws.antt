@@ -25,7 +25,7 @@ use Rattle.meaning.specs.declared.Algorithm.the-variants.{RulesDeny, RulesPermi
 use Rattle.algorithm.specs.Fold.{isOnly, start, result, settled, absorb}
 use Rattle.algorithm.specs.declared.Acc.{Acc}
 use Rattle.decider.specs.Places.{Holds, Stacked, between}
-use Rattle.decider.specs.Inside.{childAt, childrenIn, isDue, keeps, upOf, upAt, directOf, roomOf, deepOf, Put, Ruled, Applies, Single, Picked, noted, isMany}
+use Rattle.decider.specs.Inside.{childAt, childrenIn, isDue, keeps, upOf, upAt, directOf, roomOf, deepOf, Put, Ruled, Applies, Single, Picked, picking, isMany}
 use Rattle.decider.specs.declared.Pick.{Pick}
 use Rattle.decider.specs.declared.Pick.the-variants.{Nobody, One, Many}
 use Rattle.decider.proofs.Stack.{holds-none, holds-both, holds-store, settled as stays, settled-within}
@@ -294,7 +294,7 @@ either-way false e = e
 
 -- one child more, whose target is t
 seen-more : (b : List ℕ) (g : Bags) (from count i s : ℕ) (rest : List Child) (p : Pick) (t : Truth) → childAt b g i s .target ≡ t
-    → (t ≡ True → Applies b g from count i s) → Seen b g from count (childAt b g i s ∷ rest) p → Seen b g from count rest (noted p t i s)
+    → (t ≡ True → Applies b g from count i s) → Seen b g from count (childAt b g i s ∷ rest) p → Seen b g from count rest (picking p t i s)
 unfolding Seen combine
 seen-more b g from count i s rest Nobody False e h w = rw e at w
 seen-more b g from count i s rest (One j k) False e h w = rw e at w
@@ -326,7 +326,7 @@ module _ {b : List ℕ} {g : Bags} {from count i left : ℕ} {p : Pick} (w : See
       seen = rw (children-skip b g i left h e (sym eq ∙ z)) at (w .seen);
     }
 
-    module _ {t : Truth} {r : Pick} (z : q ≡ true) (et : t ≡ targetOf g (targetIn b (forest b (i + 1) (s - 1)))) (er : r ≡ noted p t i s) where
+    module _ {t : Truth} {r : Pick} (z : q ≡ true) (et : t ≡ targetOf g (targetIn b (forest b (i + 1) (s - 1)))) (er : r ≡ picking p t i s) where
       here : t ≡ True → Applies b g from count i s
       here y = record {
         matches = at-target b g i s ∙ sym et ∙ y;

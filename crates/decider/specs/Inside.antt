@@ -101,12 +101,12 @@ Picked b g from count (One j s) = Single b g from count j s
 Picked b g from count Many = combine OnlyOne (childrenIn b g from count) ≡ Indeterminate
 
 -- a target more
-abbrev pub noted : Pick → Truth → ℕ → ℕ → Pick
-noted p False i s = p
-noted p Unknown i s = Many
-noted Nobody True i s = One i s
-noted (One j t) True i s = Many
-noted Many True i s = Many
+abbrev pub picking : Pick → Truth → ℕ → ℕ → Pick
+picking p False i s = p
+picking p Unknown i s = Many
+picking Nobody True i s = One i s
+picking (One j t) True i s = Many
+picking Many True i s = Many
 
 abbrev pub isMany : Pick → Bool
 isMany Nobody = false

@@ -17,7 +17,7 @@ ghost use Rattle.meaning.specs.Reading.{policiesBy, obligationsIn, bagsOf};
 ghost use Rattle.algorithm.specs.Fold.{isOnly};
 ghost use Rattle.fields.specs.Fields.{obligationsOf};
 ghost use Rattle.decider.specs.Outcome.{outcomeOf, outOf};
-ghost use Rattle.decider.specs.Inside.{Answered, childAt, childrenIn, isDue, keeps, upOf, upAt, directOf, roomOf, deepOf, Put, Ruled, Picked, noted, isMany};
+ghost use Rattle.decider.specs.Inside.{Answered, childAt, childrenIn, isDue, keeps, upOf, upAt, directOf, roomOf, deepOf, Put, Ruled, Picked, picking, isMany};
 
 mod places;
 
@@ -127,7 +127,7 @@ fn own(book: &[u8], from: usize, count: usize, d: Decision, out: &mut [u16], n: 
 }
 
 fn note(p: Pick, t: Truth, i: usize, s: usize) -> Pick
-    ensures { λ r. ⌜ r ≡ noted p t i s ⌝ }
+    ensures { λ r. ⌜ r ≡ picking p t i s ⌝ }
 {
     match t {
         Truth::False => p,

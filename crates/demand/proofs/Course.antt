@@ -19,7 +19,7 @@ use Rattle.programme.specs.Entry.{Entry, further, lawful}
 use Rattle.programme.specs.Layout.{unpackOf, packOf, allowed, fetch}
 use Rattle.programme.specs.Step.{mayStep, stepOf, isOver, countBy, freshOf}
 use Rattle.programme.proofs.Forward.{still-allowed}
-use Rattle.run.specs.Tick.{countOf, obligationsOf}
+use Rattle.run.specs.Tick.{countOf, firstPlaces}
 use Rattle.promises.specs.Steps.{afterSteps, Goes}
 use Rattle.translator.specs.Flat.{Flat, flatAfter, sees, flatStep, flatRun, flatOf, isFurther, Codes}
 use Rattle.translator.proofs.Packed.{packed-step}
@@ -76,7 +76,7 @@ module _ (p : List ℕ) (es : List Entry) (g : Bags) (same : length p ≡ length
     few-counted Indeterminate = omega arith
 
     answered : (s : State) → flatOf s ≡ w .ends → Answered s d os
-    unfolding isOver obligationsOf countOf flatOf
+    unfolding isOver firstPlaces countOf flatOf
     answered s e =
         let c : ℕ = countBy (w .ends .head .reg) (w .ends .head) in
         let m : c ≤ 1000 = few-counted (w .ends .head .reg) in

@@ -9,14 +9,14 @@ use Rattle.meaning.specs.declared.Decision.{Decision}
 use Rattle.programme.specs.declared.State.{State}
 use Rattle.programme.specs.Layout.{unpackOf}
 use Rattle.programme.specs.Step.{isOver, freshOf}
-use Rattle.run.specs.Tick.{countOf, obligationsOf}
+use Rattle.run.specs.Tick.{countOf, firstPlaces}
 use Rattle.promises.specs.Steps.{afterSteps, Left}
 
 -- a finished state, with its answer
 pub record Answered (s : State) (d : Decision) (os : List ℕ) : Type 0 where
   pub over : isOver s ≡ true
   pub decision : unpackOf (s .head) .reg ≡ d
-  pub obligations : obligationsOf s ≡ os
+  pub obligations : firstPlaces s ≡ os
   pub count : countOf s ≡ length os
 
 -- from the fresh state `steps` single steps are left: at least one, and no more than there are entries. None of them meets entries outside their layout, and the

@@ -11,7 +11,7 @@ use Rattle.record.specs.Choose.{if, among}
 use Rattle.record.specs.Bytes.{byteOf, spanOf}
 use Rattle.fields.specs.declared.Kind.{Kind}
 use Rattle.fields.specs.declared.Kind.the-variants.{Section, Conjunction, Match, Obligation}
-use Rattle.judge.specs.Place.{mostDepth, numberOf, takesOf, stepOf, underOk, rankOf}
+use Rattle.judge.specs.Place.{mostDepth, kindNumber, takesOf, riseOf, underOk, rankOf}
 use Rattle.judge.specs.Row.{Fit, Row}
 use Rattle.judge.proofs.Laws.{span-end}
 use Rattle.judge.proofs.Rows.{row-none, row-then, row-lower, row-child}
@@ -19,11 +19,11 @@ use Rattle.judge.proofs.Fits.{leaf, other, not-duty, duty, fit-span, fi
 
 -- a child with nothing below it
 pub row-leaf : (b : List ℕ) (d pn gc pc lo : ℕ) {i e : ℕ} {k : Kind} → Fit b i k → leaf k ≡ true → i < e → takesOf pn k ≡ true
-    → lo + stepOf pn k ≤ rankOf k (byteOf b i 4) → underOk k gc (byteOf b i 4) ≡ true → d < mostDepth
+    → lo + riseOf pn k ≤ rankOf k (byteOf b i 4) → underOk k gc (byteOf b i 4) ≡ true → d < mostDepth
     → Row b i (i + 1) e d pn gc pc lo (rankOf k (byteOf b i 4)) (if (eqb (byteOf b i 0) 8) 1 0)
 row-leaf b d pn gc pc lo {i} {e} {k} f l h takes after under deep =
     let u : i + 1 ≤ e = omega arith in
-    let x : Row b (i + 1) (i + 1) (i + 1) (d + 1) (numberOf k) pc (byteOf b i 4) 0 0 0 = row-none b refl (omega arith) in
+    let x : Row b (i + 1) (i + 1) (i + 1) (d + 1) (kindNumber k) pc (byteOf b i 4) 0 0 0 = row-none b refl (omega arith) in
     rw (add-zero (if (eqb (byteOf b i 0) 8) 1 0)) at (row-child b d pn gc pc lo f (sym (span-end b i 1 (sym (fit-leaf b i f l)))) (omega arith) u takes after under deep x)
 
 -- one more match

@@ -14,7 +14,7 @@ use Rattle.fields.specs.declared.Kind.{Kind}
 use Rattle.fields.specs.declared.Kind.the-variants.{PolicySet, Policy, Rule, Section, Conjunction, Match, Logic, Not, Comparison, Obligation, Nothing}
 use Rattle.fields.proofs.First.{by}
 use Rattle.fields.proofs.Spans.{span-pos}
-use Rattle.judge.specs.Place.{numberOf}
+use Rattle.judge.specs.Place.{kindNumber}
 use Rattle.judge.specs.Row.{Fit, isFit}
 
 -- document 01's table by kind: its kind byte, its lowest choice and its highest; `Nothing` has no choice
@@ -91,7 +91,7 @@ ofNumber n =
     if (eqb n 1) PolicySet (if (eqb n 2) Policy (if (eqb n 3) Rule (if (eqb n 4) Section (if (eqb n 5) Conjunction (if (eqb n 6) Match
     (if (eqb n 71) Logic (if (eqb n 72) Not (if (eqb n 73) Comparison (if (eqb n 8) Obligation Nothing)))))))))
 
-numbered : (k : Kind) → ofNumber (numberOf k) ≡ k
+numbered : (k : Kind) → ofNumber (kindNumber k) ≡ k
 unfolding ofNumber
 numbered PolicySet = refl
 numbered Policy = refl
@@ -109,9 +109,9 @@ numbered Nothing = refl
 pub fits : {b : List ℕ} {i : ℕ} {k : Kind} {t : Bool} → t ≡ isFit b i k → t ≡ true → Fit b i k
 unfolding isFit
 fits {b} {i} {k} et y =
-    let p = both-parts (eqb (numberOf (kindAt b i)) (numberOf k)) (fieldOk b i) (sym et ∙ y) in
+    let p = both-parts (eqb (kindNumber (kindAt b i)) (kindNumber k)) (fieldOk b i) (sym et ∙ y) in
     record {
-      kind = sym (numbered (kindAt b i)) ∙ ap ofNumber (eqb-true (numberOf (kindAt b i)) (numberOf k) (p .0)) ∙ numbered k;
+      kind = sym (numbered (kindAt b i)) ∙ ap ofNumber (eqb-true (kindNumber (kindAt b i)) (kindNumber k) (p .0)) ∙ numbered k;
       fields = p .1;
     }
 
@@ -126,7 +126,7 @@ module _ (b : List ℕ) (i : ℕ) (k : Kind) {t : Bool} (et : t ≡ inTable k (b
 
     pub listed : {u : Bool} → u ≡ rulesOf b i k → u ≡ isFit b i k
     unfolding isFit kindAt fieldOk
-    listed eu = rw (eqb-true (byteOf b i 0) (tableOf k .0) (found .0), of-table k (byteOf b i 1) (found .1), eq-eqb (numberOf k) (numberOf k) refl) eu
+    listed eu = rw (eqb-true (byteOf b i 0) (tableOf k .0) (found .0), of-table k (byteOf b i 1) (found .1), eq-eqb (kindNumber k) (kindNumber k) refl) eu
 
     pub lowest : tableOf k .1 ≤ byteOf b i 1
     lowest = leb-true (tableOf k .1) (byteOf b i 1) (both-left (leb (tableOf k .1) (byteOf b i 1)) (leb (byteOf b i 1) (tableOf k .2)) (found .1))
@@ -146,8 +146,8 @@ not-duty b i f n =
     (λ t. rw t)
 
 -- a kind of another number than 8 is not that of an obligation
-pub other : {k : Kind} → eqb (numberOf k) 8 ≡ false → k ≡ Obligation → ⊥
-other d e = no-false (sym d ∙ ap (λ (k : Kind). eqb (numberOf k) 8) e)
+pub other : {k : Kind} → eqb (kindNumber k) 8 ≡ false → k ≡ Obligation → ⊥
+other d e = no-false (sym d ∙ ap (λ (k : Kind). eqb (kindNumber k) 8) e)
 
 -- an obligation is counted as one
 pub duty : (b : List ℕ) (i : ℕ) → Fit b i Obligation → _≡_ {A = ℕ} (if (eqb (byteOf b i 0) 8) 1 0) 1

@@ -17,7 +17,7 @@ use Rattle.fields.specs.Fields.{kindAt, fieldOk, obligationsOf}
 use Rattle.fields.specs.declared.Kind.{Kind}
 use Rattle.fields.proofs.First.{by, last-is, last-ge, last-of, count-skip, count-one, count-same, first-none, first-here, first-next, first-le, first-past, first-in, first-all}
 use Rattle.fields.proofs.Spans.{span-pos}
-use Rattle.judge.specs.Place.{mostDepth, endOf, covers, parentOf, elderOf, depthOf, numberOf, takesOf, stepOf, underOk, rankOf, rankAt, elderRank, standsOk, childRule, childBroken, topOk, brokenAt, placeOk}
+use Rattle.judge.specs.Place.{mostDepth, endOf, covers, parentOf, elderOf, depthOf, kindNumber, takesOf, riseOf, underOk, rankOf, rankAt, elderRank, standsOk, childRule, childBroken, topOk, brokenAt, placeOk}
 use Rattle.judge.specs.Walk.{Walk, Finds}
 use Rattle.judge.specs.Sound.{ParentIs}
 use Rattle.judge.specs.declared.Judged.the-variants.{Accepted}
@@ -97,7 +97,7 @@ module _ (p : ℕ) (k : Kind) (c e g : ℕ) {t : Bool} (et : t ≡ takesOf p k) 
   unfolding standsOk
   not-taken q = rw (← et, q)
 
-  module _ (q : t ≡ true) {r s : ℕ} (er : r ≡ rankOf k c) (es : s ≡ stepOf p k) where
+  module _ (q : t ≡ true) {r s : ℕ} (er : r ≡ rankOf k c) (es : s ≡ riseOf p k) where
     pub not-after : r < e + s → false ≡ standsOk p k c e g
     unfolding standsOk
     not-after x = rw (← et, q, ← er, ← es, lt-leb (e + s) r x)
@@ -118,13 +118,13 @@ unfolding childRule
 rule-none end top d t e = let w = tests (leb end top) t (leb d mostDepth) e in (leb-true end top (w .0), w .1, leb-true d mostDepth (w .2))
 
 -- a child that may stand there: its parent takes it, it comes after the child before, and a match has its section's category
-pub stands-parts : (p : ℕ) (k : Kind) (c e g : ℕ) → standsOk p k c e g ≡ true → (takesOf p k ≡ true) × (e + stepOf p k ≤ rankOf k c) × (underOk k g c ≡ true)
+pub stands-parts : (p : ℕ) (k : Kind) (c e g : ℕ) → standsOk p k c e g ≡ true → (takesOf p k ≡ true) × (e + riseOf p k ≤ rankOf k c) × (underOk k g c ≡ true)
 unfolding standsOk
 stands-parts p k c e g x =
-    let a : Bool = leb (e + stepOf p k) (rankOf k c) in
+    let a : Bool = leb (e + riseOf p k) (rankOf k c) in
     let w = both-parts (takesOf p k) (both a (underOk k g c)) x in
     let v = both-parts a (underOk k g c) (w .1) in
-    (w .0, leb-true (e + stepOf p k) (rankOf k c) (v .0), v .1)
+    (w .0, leb-true (e + riseOf p k) (rankOf k c) (v .0), v .1)
 
 pub rule-zero : (end top d : ℕ) (t : Bool) → end ≤ top → t ≡ true → d ≤ mostDepth → childRule end top d t ≡ 0
 unfolding childRule
@@ -133,7 +133,7 @@ rule-zero end top d t h e g = rw (le-leb end top h, e, le-leb d mostDepth g)
 -- what a record that keeps the rules says of its parent
 pub kept-at : (b : List ℕ) (j : ℕ) → 0 < j → placeOk b j ≡ true
     → (endOf b j ≤ endOf b (parentOf b j))
-    × (standsOk (numberOf (kindAt b (parentOf b j))) (kindAt b j) (byteOf b j 4) (elderRank b (parentOf b j) (elderOf b (parentOf b j) j)) (byteOf b (parentOf b (parentOf b j)) 4) ≡ true)
+    × (standsOk (kindNumber (kindAt b (parentOf b j))) (kindAt b j) (byteOf b j 4) (elderRank b (parentOf b j) (elderOf b (parentOf b j) j)) (byteOf b (parentOf b (parentOf b j)) 4) ≡ true)
     × (depthOf b j ≤ mostDepth)
 unfolding placeOk brokenAt childBroken
 kept-at b j h e =
@@ -200,7 +200,7 @@ module _ (b : List ℕ) {p i e d pn gc pc er : ℕ} {k : Kind} {c end : ℕ} (h 
         omega (arith, y .2, depth-is b w (h .inside)),
       )
 
-  pub kids : {n : ℕ} → n ≡ numberOf k → Walk b i (i + 1) end (d + 1) n pc c 0
+  pub kids : {n : ℕ} → n ≡ kindNumber k → Walk b i (i + 1) end (d + 1) n pc c 0
   unfolding elderRank
   kids en =
       let o = bounds in
@@ -221,7 +221,7 @@ module _ (b : List ℕ) {p i e d pn gc pc er : ℕ} {k : Kind} {c end : ℕ} (h 
         elder-of = λ x. absurd (omega arith);
         elder-first = λ x. refl;
         elder-end = λ x. absurd (omega arith);
-        number = en ∙ ap numberOf (h .kind);
+        number = en ∙ ap kindNumber (h .kind);
         grand = w .own ∙ ap (λ (n : ℕ). byteOf b n 4) (sym (parent-is b w (h .inside)));
         own = h .category;
         rank = rw (eq-eqb i i refl);
@@ -279,7 +279,7 @@ module _ (b : List ℕ) {p i e d pn gc pc er : ℕ} {k : Kind} {c end : ℕ} (h 
           ev ∙ first-next (placeOk b) i (e - i) (e - (i + 1)) (omega arith) (h .ok) ∙ (rw (m, n) at s)
 
 -- line 1
-module _ (b : List ℕ) {n m : ℕ} {k : Kind} {u : Bool} (h : 0 < n) (el : length b ≡ n * size) (ek : k ≡ kindAt b 0) (em : m ≡ numberOf k) (eu : u ≡ among 1 2 m) where
+module _ (b : List ℕ) {n m : ℕ} {k : Kind} {u : Bool} (h : 0 < n) (el : length b ≡ n * size) (ek : k ≡ kindAt b 0) (em : m ≡ kindNumber k) (eu : u ≡ among 1 2 m) where
   top-not : topOk b ≡ false → Finds b 0 n 0 9
   unfolding placeOk brokenAt
   top-not x = record { place = sym (first-here (placeOk b) 0 n h (rw x)); which = λ z. rw x }
@@ -320,7 +320,7 @@ module _ (b : List ℕ) {n m : ℕ} {k : Kind} {u : Bool} (h : 0 < n) (el : leng
         elder-of = λ y. absurd (omega arith);
         elder-first = λ y. refl;
         elder-end = λ y. absurd (omega arith);
-        number = em ∙ ap numberOf ek;
+        number = em ∙ ap kindNumber ek;
         grand = ec;
         own = ec;
         rank = refl;

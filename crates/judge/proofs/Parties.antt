@@ -16,7 +16,7 @@ use Rattle.fields.specs.declared.Kind.{Kind}
 use Rattle.fields.specs.declared.Kind.the-variants.{PolicySet, Policy}
 use Rattle.fields.proofs.First.{by, first-reach-all}
 use Rattle.fields.proofs.Laws.{obligations-none, obligations-more, obligations-le}
-use Rattle.judge.specs.Place.{mostDepth, endOf, numberOf, takesOf, stepOf, underOk, rankOf, placeOk}
+use Rattle.judge.specs.Place.{mostDepth, endOf, kindNumber, takesOf, riseOf, underOk, rankOf, placeOk}
 use Rattle.judge.specs.Row.{Fit, Row, Party}
 use Rattle.judge.specs.Judge.{judgeRecords}
 use Rattle.judge.specs.declared.Judged.the-variants.{Accepted}
@@ -27,7 +27,7 @@ use Rattle.judge.proofs.Parts.{row-other}
 
 -- a policy or set among the children of a set
 module _ (b : List ℕ) (d gc pc : ℕ) {i e due : ℕ} (x : Party b i e (d + 1) due) (deep : d < mostDepth) where
-  of-kind : (k : Kind) → kindAt b i ≡ k → takesOf 1 k ≡ true → stepOf 1 k ≡ 0 → rankOf k (byteOf b i 4) ≡ 5 → underOk k gc (byteOf b i 4) ≡ true
+  of-kind : (k : Kind) → kindAt b i ≡ k → takesOf 1 k ≡ true → riseOf 1 k ≡ 0 → rankOf k (byteOf b i 4) ≡ 5 → underOk k gc (byteOf b i 4) ≡ true
       → Row b i (endOf b i) e d 1 gc pc 5 5 due
   of-kind k q takes step five under =
       row-other b d 1 gc pc 5 (record { kind = q; fields = x .fields }) (span-end b i (spanOf b i) refl) (x .within) takes five (omega (arith, step)) under deep
@@ -41,10 +41,10 @@ module _ (b : List ℕ) {n due : ℕ} (h : 0 < n) (l : length b ≡ n * size) (s
   ends : endOf b 0 ≡ n
   ends = span-end b 0 (spanOf b 0) refl ∙ omega (arith, s)
 
-  top-is : among 1 2 (numberOf (kindAt b 0)) ≡ true
+  top-is : among 1 2 (kindNumber (kindAt b 0)) ≡ true
   top-is = ⊎-elim (λ (t : kindAt b 0 ≡ PolicySet). rw t refl) (λ (t : kindAt b 0 ≡ Policy). rw t refl) (x .kind)
 
-  below : Row b 1 n n 1 (numberOf (kindAt b 0)) (byteOf b 0 4) (byteOf b 0 4) 0 6 due
+  below : Row b 1 n n 1 (kindNumber (kindAt b 0)) (byteOf b 0 4) (byteOf b 0 4) 0 6 due
   below = rw ends at (x .below (byteOf b 0 4))
 
   fields-all : firstFrom (fieldOk b) 0 n ≡ n
@@ -61,7 +61,7 @@ module _ (b : List ℕ) {n due : ℕ} (h : 0 < n) (l : length b ≡ n * size) (s
         which = λ z. absurd (omega arith);
       }) .place
 
-  no-eight : eqb (numberOf (kindAt b 0)) 8 ≡ false
+  no-eight : eqb (kindNumber (kindAt b 0)) 8 ≡ false
   no-eight = ⊎-elim (λ (t : kindAt b 0 ≡ PolicySet). rw t refl) (λ (t : kindAt b 0 ≡ Policy). rw t refl) (x .kind)
 
   duties-all : obligationsOf b n ≡ due
@@ -76,7 +76,7 @@ module _ (b : List ℕ) {n due : ℕ} (h : 0 < n) (l : length b ≡ n * size) (s
 
 -- a policy or set with all that is below it
 pub party-is : (b : List ℕ) {i top d due next : ℕ} (k : Kind) → Fit b i k → (k ≡ PolicySet) ⊎ (k ≡ Policy) → next ≡ i + spanOf b i → next ≤ top
-    → ((gc pc : ℕ) → Row b (i + 1) next next d (numberOf k) gc pc 0 6 due) → Party b i top d due
+    → ((gc pc : ℕ) → Row b (i + 1) next next d (kindNumber k) gc pc 0 6 due) → Party b i top d due
 party-is b {i} {top} {d} {due} {next} k f o n l x =
     let q : next ≡ endOf b i = n ∙ sym (span-end b i (spanOf b i) refl) in
     let s = fit-span b i f in

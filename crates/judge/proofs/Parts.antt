@@ -10,7 +10,7 @@ use Rattle.fields.specs.Fields.{fieldOk}
 use Rattle.fields.specs.declared.Kind.{Kind}
 use Rattle.fields.specs.declared.Kind.the-variants.{Rule, Logic, Not, Comparison, Obligation}
 use Rattle.fields.proofs.Spans.{plain-span}
-use Rattle.judge.specs.Place.{mostDepth, numberOf, takesOf, stepOf, underOk, rankOf, holdsConditions, singleOf}
+use Rattle.judge.specs.Place.{mostDepth, kindNumber, takesOf, riseOf, underOk, rankOf, holdsConditions, singleOf}
 use Rattle.judge.specs.Row.{Fit, Row}
 use Rattle.judge.proofs.Fits.{not-duty, fit-span, fit-leaf}
 use Rattle.judge.proofs.Laws.{span-end}
@@ -23,8 +23,8 @@ not-span b i f = plain-span b i 2 (rw (f .kind) at (f .fields))
 
 -- a child of rank 5, which is neither a section nor an obligation, and what is below it
 module _ (b : List ℕ) (d pn gc pc lo : ℕ) {i e next below due : ℕ} {k : Kind} (f : Fit b i k) (ends : next ≡ i + spanOf b i) (upto : next ≤ e)
-    (takes : takesOf pn k ≡ true) (five : rankOf k (byteOf b i 4) ≡ 5) (after : lo + stepOf pn k ≤ 5) (under : underOk k gc (byteOf b i 4) ≡ true)
-    (deep : d < mostDepth) (x : Row b (i + 1) next next (d + 1) (numberOf k) pc (byteOf b i 4) 0 below due) where
+    (takes : takesOf pn k ≡ true) (five : rankOf k (byteOf b i 4) ≡ 5) (after : lo + riseOf pn k ≤ 5) (under : underOk k gc (byteOf b i 4) ≡ true)
+    (deep : d < mostDepth) (x : Row b (i + 1) next next (d + 1) (kindNumber k) pc (byteOf b i 4) 0 below due) where
   no-obligation : k ≡ Obligation → ⊥
   no-obligation q = let z : rankOf Obligation (byteOf b i 4) ≡ 5 = rw q at five in omega arith
 
@@ -55,8 +55,8 @@ module _ (b : List ℕ) {i r e d : ℕ} (c : Condition b i r e d) (gc pc : ℕ) 
 
 -- a condition by its kind, and what is below it
 module _ (b : List ℕ) {i e d next : ℕ} {k : Kind} (f : Fit b i k) (ends : next ≡ i + spanOf b i) (upto : next ≤ e) (deep : d < mostDepth) where
-  condition-is : ((pn : ℕ) → takesOf pn k ≡ holdsConditions pn) → ((pn : ℕ) → stepOf pn k ≡ singleOf pn) → rankOf k (byteOf b i 4) ≡ 5
-      → ((g : ℕ) → underOk k g (byteOf b i 4) ≡ true) → ((gc pc : ℕ) → Row b (i + 1) next next (d + 1) (numberOf k) gc pc 0 5 0) → Condition b i next e d
+  condition-is : ((pn : ℕ) → takesOf pn k ≡ holdsConditions pn) → ((pn : ℕ) → riseOf pn k ≡ singleOf pn) → rankOf k (byteOf b i 4) ≡ 5
+      → ((g : ℕ) → underOk k g (byteOf b i 4) ≡ true) → ((gc pc : ℕ) → Row b (i + 1) next next (d + 1) (kindNumber k) gc pc 0 5 0) → Condition b i next e d
   condition-is takes step five under x = (
     omega (arith, fit-span b i f),
     upto,

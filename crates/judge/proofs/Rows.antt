@@ -12,7 +12,7 @@ use Rattle.fields.specs.Fields.{obligationsOf}
 use Rattle.fields.specs.declared.Kind.{Kind}
 use Rattle.fields.proofs.First.{by, first-reach-all}
 use Rattle.fields.proofs.Laws.{obligations-more}
-use Rattle.judge.specs.Place.{mostDepth, endOf, numberOf, takesOf, stepOf, underOk, rankOf, standsOk, placeOk}
+use Rattle.judge.specs.Place.{mostDepth, endOf, kindNumber, takesOf, riseOf, underOk, rankOf, standsOk, placeOk}
 use Rattle.judge.specs.Walk.{Walk, Finds}
 use Rattle.judge.specs.Row.{Fit, Row}
 use Rattle.judge.proofs.Laws.{span-end, rule-zero, Passed, passed, kids, rest}
@@ -47,11 +47,11 @@ module _ (b : List ℕ) {i j e d pn gc pc lo mid m : ℕ} (x : Row b i j e d pn 
 
 -- a child, and what is below it
 module _ (b : List ℕ) (d pn gc pc lo : ℕ) {i e end below due : ℕ} {k : Kind} (f : Fit b i k) (ends : end ≡ endOf b i) (inside : i < end) (upto : end ≤ e)
-    (takes : takesOf pn k ≡ true) (after : lo + stepOf pn k ≤ rankOf k (byteOf b i 4)) (under : underOk k gc (byteOf b i 4) ≡ true) (deep : d < mostDepth)
-    (x : Row b (i + 1) end end (d + 1) (numberOf k) pc (byteOf b i 4) 0 below due) where
+    (takes : takesOf pn k ≡ true) (after : lo + riseOf pn k ≤ rankOf k (byteOf b i 4)) (under : underOk k gc (byteOf b i 4) ≡ true) (deep : d < mostDepth)
+    (x : Row b (i + 1) end end (d + 1) (kindNumber k) pc (byteOf b i 4) 0 below due) where
   stands : (r : ℕ) → r ≤ lo → true ≡ standsOk pn k (byteOf b i 4) r gc
   unfolding standsOk
-  stands r h = rw (takes, le-leb (r + stepOf pn k) (rankOf k (byteOf b i 4)) (omega arith), under) refl
+  stands r h = rw (takes, le-leb (r + riseOf pn k) (rankOf k (byteOf b i 4)) (omega arith), under) refl
 
   span-is : end ≡ i + spanOf b i
   span-is = ends ∙ span-end b i (spanOf b i) refl

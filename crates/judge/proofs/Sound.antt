@@ -20,9 +20,9 @@ use Rattle.fields.specs.declared.Kind.{Kind}
 use Rattle.fields.specs.declared.Kind.the-variants.{PolicySet, Policy, Rule, Section, Conjunction, Match, Logic, Not, Comparison, Obligation, Nothing}
 use Rattle.fields.proofs.First.{by, last-ge, last-of}
 use Rattle.fields.proofs.Spans.{span-pos, category-pos}
-use Rattle.judge.specs.Place.{endOf, covers, parentOf, depthOf, numberOf, singleOf, elderOf, elderRank, rankOf, rankAt, stepOf, underOk, standsOk, childBroken, topOk, brokenAt, placeOk}
+use Rattle.judge.specs.Place.{endOf, covers, parentOf, depthOf, kindNumber, singleOf, elderOf, elderRank, rankOf, rankAt, riseOf, underOk, standsOk, childBroken, topOk, brokenAt, placeOk}
 use Rattle.judge.specs.Exactly.{AllKeep, Sized, Keeps}
-use Rattle.judge.specs.Sound.{Nested, Row, KeptNests, OneTree, stated, NoCut, DepthIs, AfterAll, OkIsPlaced, PlacedIsOk, KeptInOrder}
+use Rattle.judge.specs.Sound.{Nested, WholeRow, KeptNests, OneTree, stated, NoCut, DepthIs, AfterAll, OkIsPlaced, PlacedIsOk, KeptInOrder}
 use Rattle.judge.proofs.Laws.{depth-under, ends-within, parent-ge, parent-of, kept-at, stands-parts, all-but, rule-zero}
 
 -- line 1 is a policy set or a policy, and covers all
@@ -30,11 +30,11 @@ top-true : (t : Bool) → _≡_ {A = ℕ} (if t 0 9) 0 → t ≡ true
 top-true true e = refl
 top-true false e = absurd (omega arith)
 
-pub top-kept : (b : List ℕ) (n : ℕ) → Sized b n → placeOk b 0 ≡ true → (among 1 2 (numberOf (kindAt b 0)) ≡ true) × (spanOf b 0 ≡ n)
+pub top-kept : (b : List ℕ) (n : ℕ) → Sized b n → placeOk b 0 ≡ true → (among 1 2 (kindNumber (kindAt b 0)) ≡ true) × (spanOf b 0 ≡ n)
 unfolding placeOk brokenAt topOk
 top-kept b n s e =
     let y : topOk b ≡ true = top-true (topOk b) (eqb-true (brokenAt b 0) 0 e) in
-    let x = both-parts (among 1 2 (numberOf (kindAt b 0))) (eqb (spanOf b 0) (length b / size)) y in
+    let x = both-parts (among 1 2 (kindNumber (kindAt b 0))) (eqb (spanOf b 0) (length b / size)) y in
     (x .0, omega (arith, s .bytes, eqb-true (spanOf b 0) (length b / size) (x .1)))
 
 whole-is : (b : List ℕ) (n : ℕ) → Sized b n → placeOk b 0 ≡ true → endOf b 0 ≡ n
@@ -72,22 +72,22 @@ kept-nests b n k = record {
 
 -- a function that goes by the stated spans: the first record of a row, its children, and the row behind it
 module _ (b : List ℕ) {n : ℕ} (w : Nested b n) where
-  pub row-all : Row b 0 n
+  pub row-all : WholeRow b 0 n
   row-all = record { upto = omega arith; ends = λ j a z. w .ends j z }
 
-  module _ {i e s : ℕ} (l : e ≤ n) (r : Row b i e) (h : i < e) (es : s ≡ spanOf b i) where
+  module _ {i e s : ℕ} (l : e ≤ n) (r : WholeRow b i e) (h : i < e) (es : s ≡ spanOf b i) where
     pub row-first : (1 ≤ s) × (i + s ≤ e)
     unfolding endOf
     row-first = (omega (arith, w .spans i (omega arith)), omega (arith, r .ends i (omega arith) h))
 
-    pub row-kids : Row b (i + 1) (i + s)
+    pub row-kids : WholeRow b (i + 1) (i + s)
     unfolding endOf
     row-kids = record {
       upto = omega (arith, w .spans i (omega arith));
       ends = λ j a z. omega (arith, w .nests i j (omega arith) (omega (arith, row-first)) (omega arith));
     }
 
-    pub row-rest : Row b (i + s) e
+    pub row-rest : WholeRow b (i + s) e
     row-rest = record { upto = row-first .1; ends = λ j a z. r .ends j (omega arith) z }
 
     pub span-is : spanIn b i (e - i) ≡ s
@@ -95,7 +95,7 @@ module _ (b : List ℕ) {n : ℕ} (w : Nested b n) where
     span-is = omega (arith, row-first)
 
   -- cutting changes nothing, at any row
-  no-cutF : (f i left e : ℕ) → e ≤ n → e ≡ i + left → Row b i e → growF (spanIn b) f i left ≡ growF (λ (j l : ℕ). spanOf b j) f i left
+  no-cutF : (f i left e : ℕ) → e ≤ n → e ≡ i + left → WholeRow b i e → growF (spanIn b) f i left ≡ growF (λ (j l : ℕ). spanOf b j) f i left
   unfolding growF
   no-cutF zero i left e l x r = refl
   no-cutF (suc f) i zero e l x r = refl
@@ -132,7 +132,7 @@ depth-is-next b n w i h l =
 
 -- record i stands after the child before it
 abbrev AfterElder : List ℕ → ℕ → Type 0
-AfterElder b i = elderRank b (parentOf b i) (elderOf b (parentOf b i) i) + stepOf (numberOf (kindAt b (parentOf b i))) (kindAt b i) ≤ rankAt b i
+AfterElder b i = elderRank b (parentOf b i) (elderOf b (parentOf b i) i) + riseOf (kindNumber (kindAt b (parentOf b i))) (kindAt b i) ≤ rankAt b i
 
 after-elder : (b : List ℕ) (i : ℕ) → 0 < i → placeOk b i ≡ true → AfterElder b i
 unfolding rankAt
@@ -162,7 +162,7 @@ module _ (b : List ℕ) (n : ℕ) (s : Sized b n) where
       let u : p < j = omega (arith, parent-of b j 0 a cov) in
       let w = elder-of b p i j l (rw (ne-eqb j p (λ y. omega arith)) (eq-eqb (parentOf b j) p e)) in
       let v : q ≡ p → ⊥ = λ y. omega (arith, w .0) in
-      let y : rankAt b q + stepOf (numberOf (kindAt b p)) (kindAt b i) ≤ rankAt b i = rw (ne-eqb q p v) at x in
+      let y : rankAt b q + riseOf (kindNumber (kindAt b p)) (kindAt b i) ≤ rankAt b i = rw (ne-eqb q p v) at x in
       ⊎-elim (λ (t : j ≡ q). omega (arith, y, ap (rankAt b) t))
       (λ (t : j < q).
       let g = after-elder b q (omega arith) (ok q (w .1)) in
@@ -178,7 +178,7 @@ single-le : (p : ℕ) → singleOf p ≤ 5
 unfolding singleOf
 single-le p = by (either (eqb p 3) (eqb p 72)) (λ t. rw t (omega arith)) (λ t. rw t (omega arith))
 
-step-le : (p c : ℕ) (k : Kind) → (k ≡ Section → 1 ≤ c) → stepOf p k ≤ rankOf k c
+step-le : (p c : ℕ) (k : Kind) → (k ≡ Section → 1 ≤ c) → riseOf p k ≤ rankOf k c
 step-le p c PolicySet h = omega arith
 step-le p c Policy h = omega arith
 step-le p c Rule h = omega arith
@@ -208,7 +208,7 @@ pub ok-is-placed : OkIsPlaced
 ok-is-placed b n i s h l ok e =
     let w = kept-at b i h e in
     let p : ℕ = parentOf b i in
-    let v = stands-parts (numberOf (kindAt b p)) (kindAt b i) (byteOf b i 4) (elderRank b p (elderOf b p i)) (byteOf b (parentOf b p) 4) (w .1) in
+    let v = stands-parts (kindNumber (kindAt b p)) (kindAt b i) (byteOf b i 4) (elderRank b p (elderOf b p i)) (byteOf b (parentOf b p) 4) (w .1) in
     record {
       within = w .0;
       taken = v .0;
@@ -226,7 +226,7 @@ after-one b n i s h l ok f w =
     let o = parent-of b i 0 h (lt-ltb i (endOf b 0) (omega (arith, whole-is b n s (ok 0 h)))) in
     let v = elder-of b p i p (o .1) (simp (eq-eqb p p refl)) in
     by (eqb q p)
-    (λ t. rw t (omega (arith, step-le (numberOf (kindAt b p)) (byteOf b i 4) (kindAt b i) (category-pos b i f))))
+    (λ t. rw t (omega (arith, step-le (kindNumber (kindAt b p)) (byteOf b i 4) (kindAt b i) (category-pos b i f))))
     (λ t. let g : q ≡ p → ⊥ = eqb-false q p t in rw t (w q (omega (arith, v .0)) (v .1) (v .2 g)))
 
 pub placed-is-ok : PlacedIsOk
@@ -237,6 +237,6 @@ placed-is-ok b n i s h l ok f w =
     let g : ℕ = byteOf b (parentOf b p) 4 in
     let c : ℕ = byteOf b i 4 in
     let x = after-one b n i s h l ok f (w .after) in
-    let y : standsOk (numberOf (kindAt b p)) (kindAt b i) c e g ≡ true =
-    sym (all-but (numberOf (kindAt b p)) (kindAt b i) c e g refl (w .taken) refl refl x refl) ∙ under-is (kindAt b i) g c (w .category) in
+    let y : standsOk (kindNumber (kindAt b p)) (kindAt b i) c e g ≡ true =
+    sym (all-but (kindNumber (kindAt b p)) (kindAt b i) c e g refl (w .taken) refl refl x refl) ∙ under-is (kindAt b i) g c (w .category) in
     rw (ne-eqb i 0 (λ z. omega arith), rule-zero (endOf b i) (endOf b p) (depthOf b i) _ (w .within) y (w .depth))

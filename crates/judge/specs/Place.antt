@@ -37,18 +37,18 @@ unfoldable pub depthOf : List ℕ → ℕ → ℕ
 depthOf b i = countBelow (covers b i) i + 1
 
 -- a number for each kind: document 01's, with 71 for and and or, 72 for not, 73 for a comparison
-abbrev pub numberOf : Kind → ℕ
-numberOf PolicySet = 1
-numberOf Policy = 2
-numberOf Rule = 3
-numberOf Section = 4
-numberOf Conjunction = 5
-numberOf Match = 6
-numberOf Logic = 71
-numberOf Not = 72
-numberOf Comparison = 73
-numberOf Obligation = 8
-numberOf Nothing = 0
+abbrev pub kindNumber : Kind → ℕ
+kindNumber PolicySet = 1
+kindNumber Policy = 2
+kindNumber Rule = 3
+kindNumber Section = 4
+kindNumber Conjunction = 5
+kindNumber Match = 6
+kindNumber Logic = 71
+kindNumber Not = 72
+kindNumber Comparison = 73
+kindNumber Obligation = 8
+kindNumber Nothing = 0
 
 -- the parents that take a condition: rule, and, or, not; and those that take one only: rule and not
 unfoldable pub holdsConditions : ℕ → Bool
@@ -93,18 +93,18 @@ unfoldable pub elderRank : List ℕ → ℕ → ℕ → ℕ
 elderRank b p q = if (eqb q p) 0 (rankAt b q)
 
 -- how far a child's rank must be above that of the child before: sections rise strictly, and a rule's or a not's condition is alone
-abbrev pub stepOf : ℕ → Kind → ℕ
-stepOf p PolicySet = 0
-stepOf p Policy = 0
-stepOf p Rule = 0
-stepOf p Section = 1
-stepOf p Conjunction = 0
-stepOf p Match = 0
-stepOf p Logic = singleOf p
-stepOf p Not = singleOf p
-stepOf p Comparison = singleOf p
-stepOf p Obligation = 0
-stepOf p Nothing = 0
+abbrev pub riseOf : ℕ → Kind → ℕ
+riseOf p PolicySet = 0
+riseOf p Policy = 0
+riseOf p Rule = 0
+riseOf p Section = 1
+riseOf p Conjunction = 0
+riseOf p Match = 0
+riseOf p Logic = singleOf p
+riseOf p Not = singleOf p
+riseOf p Comparison = singleOf p
+riseOf p Obligation = 0
+riseOf p Nothing = 0
 
 -- a match has the category of its section, its parent's parent
 abbrev pub underOk : Kind → ℕ → ℕ → Bool
@@ -123,7 +123,7 @@ underOk Nothing g c = true
 -- may a child of kind k and category c stand there: the parent takes it, it comes after the child before it (of rank e), and a match has its section's
 -- category (g)
 unfoldable pub standsOk : ℕ → Kind → ℕ → ℕ → ℕ → Bool
-standsOk p k c e g = both (takesOf p k) (both (leb (e + stepOf p k) (rankOf k c)) (underOk k g c))
+standsOk p k c e g = both (takesOf p k) (both (leb (e + riseOf p k) (rankOf k c)) (underOk k g c))
 
 -- the first rule that a child breaks: 10 it runs past its parent's end, 11 it may not stand there, 12 it is too deep; 0 none
 unfoldable pub childRule : ℕ → ℕ → ℕ → Bool → ℕ
@@ -132,11 +132,11 @@ childRule end top depth stands = if (leb end top) (if stands (if (leb depth most
 unfoldable pub childBroken : List ℕ → ℕ → ℕ → ℕ
 childBroken b p i =
     childRule (endOf b i) (endOf b p) (depthOf b i)
-    (standsOk (numberOf (kindAt b p)) (kindAt b i) (byteOf b i 4) (elderRank b p (elderOf b p i)) (byteOf b (parentOf b p) 4))
+    (standsOk (kindNumber (kindAt b p)) (kindAt b i) (byteOf b i 4) (elderRank b p (elderOf b p i)) (byteOf b (parentOf b p) 4))
 
 -- line 1 is a policy set or a policy, and its span is the record count
 unfoldable pub topOk : List ℕ → Bool
-topOk b = both (among 1 2 (numberOf (kindAt b 0))) (eqb (spanOf b 0) (length b / size))
+topOk b = both (among 1 2 (kindNumber (kindAt b 0))) (eqb (spanOf b 0) (length b / size))
 
 -- the place rule that record i breaks: 9 is line 1's; 0 none
 unfoldable pub brokenAt : List ℕ → ℕ → ℕ

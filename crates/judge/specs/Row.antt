@@ -10,7 +10,7 @@ use Rattle.record.specs.Bytes.{byteOf}
 use Rattle.fields.specs.Fields.{kindAt, fieldOk, obligationsOf}
 use Rattle.fields.specs.declared.Kind.{Kind}
 use Rattle.fields.specs.declared.Kind.the-variants.{PolicySet, Policy}
-use Rattle.judge.specs.Place.{endOf, numberOf, placeOk}
+use Rattle.judge.specs.Place.{endOf, kindNumber, placeOk}
 use Rattle.judge.specs.Walk.{Walk}
 
 -- record i is a k, and keeps its field rules
@@ -20,7 +20,7 @@ pub record Fit (b : List ℕ) (i : ℕ) (k : Kind) : Type 0 where
 
 -- the same as a test
 unfoldable pub isFit : List ℕ → ℕ → Kind → Bool
-isFit b i k = both (eqb (numberOf (kindAt b i)) (numberOf k)) (fieldOk b i)
+isFit b i k = both (eqb (kindNumber (kindAt b i)) (kindNumber k)) (fieldOk b i)
 
 -- the walk has come to place i, and the child before has at most the rank `most`
 pub record Went (b : List ℕ) (p i e d pn gc pc most : ℕ) : Type 0 where
@@ -45,4 +45,4 @@ pub record Party (b : List ℕ) (i top d due : ℕ) : Type 0 where
   pub within : endOf b i ≤ top
   pub kind : (kindAt b i ≡ PolicySet) ⊎ (kindAt b i ≡ Policy)
   pub fields : fieldOk b i ≡ true
-  pub below : (gc : ℕ) → Row b (i + 1) (endOf b i) (endOf b i) d (numberOf (kindAt b i)) gc (byteOf b i 4) 0 6 due
+  pub below : (gc : ℕ) → Row b (i + 1) (endOf b i) (endOf b i) d (kindNumber (kindAt b i)) gc (byteOf b i 4) 0 6 due

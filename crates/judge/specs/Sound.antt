@@ -7,7 +7,7 @@ use Rattle.record.specs.Bytes.{byteOf, spanOf}
 use Rattle.record.specs.Forest.{Forest, none, node, growF, forest}
 use Rattle.fields.specs.Fields.{kindAt, fieldOk}
 use Rattle.fields.specs.declared.Kind.the-variants.{Match}
-use Rattle.judge.specs.Place.{mostDepth, endOf, parentOf, depthOf, numberOf, takesOf, rankAt, stepOf, placeOk}
+use Rattle.judge.specs.Place.{mostDepth, endOf, parentOf, depthOf, kindNumber, takesOf, rankAt, riseOf, placeOk}
 use Rattle.judge.specs.Exactly.{AllKeep, Sized, Keeps}
 
 -- spans that nest: each is at least 1, ends within the book, and covers each record that it covers to its end; the first covers all
@@ -19,7 +19,7 @@ pub record Nested (b : List ℕ) (n : ℕ) : Type 0 where
   pub depths : (i : ℕ) → i < n → depthOf b i ≤ mostDepth
 
 -- the records from i on and below e are whole subtrees
-pub record Row (b : List ℕ) (i e : ℕ) : Type 0 where
+pub record WholeRow (b : List ℕ) (i e : ℕ) : Type 0 where
   pub upto : i ≤ e
   pub ends : (j : ℕ) → i ≤ j → j < e → endOf b j ≤ e
 
@@ -49,13 +49,13 @@ DepthIs = (b : List ℕ) (n : ℕ) → Nested b n → (i : ℕ) → 0 < i → i 
 abbrev pub AfterAll : List ℕ → ℕ → Type 0
 AfterAll b i =
     (j : ℕ) → 0 < j → j < i → parentOf b j ≡ parentOf b i
-    → rankAt b j + stepOf (numberOf (kindAt b (parentOf b i))) (kindAt b i) ≤ rankAt b i
+    → rankAt b j + riseOf (kindNumber (kindAt b (parentOf b i))) (kindAt b i) ≤ rankAt b i
 
 -- a record below line 1 that stands where it may: it ends where its parent does or before, its parent allows it, it stands after the earlier children, a match
 -- has the category of its section, and it is not too deep
 pub record Placed (b : List ℕ) (i : ℕ) : Type 0 where
   pub within : endOf b i ≤ endOf b (parentOf b i)
-  pub taken : takesOf (numberOf (kindAt b (parentOf b i))) (kindAt b i) ≡ true
+  pub taken : takesOf (kindNumber (kindAt b (parentOf b i))) (kindAt b i) ≡ true
   pub after : AfterAll b i
   pub category : kindAt b i ≡ Match → byteOf b (parentOf b (parentOf b i)) 4 ≡ byteOf b i 4
   pub depth : depthOf b i ≤ mostDepth

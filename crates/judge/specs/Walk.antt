@@ -5,7 +5,7 @@ use mathlib.Core.List.{List}
 use Rattle.record.specs.Bytes.{byteOf, spanOf}
 use Rattle.fields.specs.First.{firstFrom}
 use Rattle.fields.specs.Fields.{kindAt}
-use Rattle.judge.specs.Place.{endOf, parentOf, depthOf, numberOf, elderRank, placeOk, brokenAt}
+use Rattle.judge.specs.Place.{endOf, parentOf, depthOf, kindNumber, elderRank, placeOk, brokenAt}
 
 -- p is the parent, e its end, d its depth, pn its number, pc its category, gc that of its parent, er the rank of the child before i; `elder` is that
 -- child, p where there is none
@@ -23,7 +23,7 @@ pub record Walk (b : List ℕ) (p i e d pn gc pc er : ℕ) : Type 0 where
   pub elder-of : p < elder → parentOf b elder ≡ p
   pub elder-first : elder ≡ p → i ≡ p + 1
   pub elder-end : p < elder → i ≤ endOf b elder
-  pub number : pn ≡ numberOf (kindAt b p)
+  pub number : pn ≡ kindNumber (kindAt b p)
   pub grand : gc ≡ byteOf b (parentOf b p) 4
   pub own : pc ≡ byteOf b p 4
   pub rank : er ≡ elderRank b p elder

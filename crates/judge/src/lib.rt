@@ -8,7 +8,7 @@ ghost use Rattle.record.specs.Choose.{among};
 ghost use Rattle.record.specs.Bytes.{size};
 ghost use Rattle.fields.specs.First.{firstFrom};
 ghost use Rattle.fields.specs.Fields.{fieldOk};
-ghost use Rattle.judge.specs.Place.{mostDepth, numberOf, holdsConditions, singleOf, takesOf, rankOf, stepOf, underOk, standsOk, childRule};
+ghost use Rattle.judge.specs.Place.{mostDepth, kindNumber, holdsConditions, singleOf, takesOf, rankOf, riseOf, underOk, standsOk, childRule};
 ghost use Rattle.judge.specs.Walk.{Walk, Finds};
 ghost use Rattle.judge.specs.Judge.{placeRefusal, judgeRecords, judgeOf};
 ghost use Rattle.judge.specs.Request.{judgeRequestOf};
@@ -31,7 +31,7 @@ pub enum JudgedRequest {
 
 // A number for each kind.
 fn number(k: Kind) -> usize
-    ensures { λ r. ⌜ r ≡ numberOf k ⌝ }
+    ensures { λ r. ⌜ r ≡ kindNumber k ⌝ }
 {
     match k {
         Kind::PolicySet => 1,
@@ -125,7 +125,7 @@ fn rank(k: Kind, c: usize) -> usize
 
 // How far its rank must be above that of the child before.
 fn step(p: usize, k: Kind) -> usize
-    ensures { λ r. ⌜ (r ≡ stepOf p k) × (r ≤ 1) ⌝ }
+    ensures { λ r. ⌜ (r ≡ riseOf p k) × (r ≤ 1) ⌝ }
 {
     match k {
         Kind::PolicySet => 0,

@@ -11,7 +11,7 @@ use lib.Dec.{leb, eqb}
 use lib.ListN.{length, take, set, getD, replicate, length-set, length-append}
 use lib.Seq.{take-suc, set-out, length-sets}
 use Rattle.io.specs.Digits.{glyph}
-use Rattle.outline.specs.Outline.{lineOf, saidOf, Says, digitOf, digitsOf, decimalOf, integerOf, plain, escaped, nameOf, exponentOf, fractionOf, signOf, hexesOf, pointOf, writtenOf, powerOf, leadOf, hexOf, halvedOf, wholeOf, isWhole, digitsToo, doubleOf}
+use Rattle.outline.specs.Outline.{lineOf, saidOf, Says, lastDigit, digitsOf, decimalOf, integerOf, plain, escaped, nameOf, exponentOf, fractionOf, signOf, hexesOf, pointOf, writtenOf, powerOf, leadOf, hexOf, halvedOf, wholeOf, isWhole, digitsToo, doubleOf}
 
 -- a line that is full takes nothing more
 full : (xs l : List ℕ) (at : ℕ) → length l ≤ at → lineOf l at xs ≡ l
@@ -93,16 +93,16 @@ repeat-more x zero h = absurd (h refl)
 repeat-more x (suc times) h = let e : suc times - 1 ≡ times = omega arith in rw e
 
 -- decimal digits
-pub digits-zero : (n more : ℕ) {d : ℕ} → more ≡ 0 → d ≡ digitOf n → d ∷ [] ≡ digitsOf more n
+pub digits-zero : (n more : ℕ) {d : ℕ} → more ≡ 0 → d ≡ lastDigit n → d ∷ [] ≡ digitsOf more n
 unfolding digitsOf
 digits-zero n more e p = rw (e, p)
 
-pub digits-last : (n more : ℕ) {d : ℕ} → n < 10 → d ≡ digitOf n → d ∷ [] ≡ digitsOf more n
+pub digits-last : (n more : ℕ) {d : ℕ} → n < 10 → d ≡ lastDigit n → d ∷ [] ≡ digitsOf more n
 unfolding digitsOf
 digits-last n zero h p = rw p
 digits-last n (suc more) h p = rw p (simp (lt-ltb n 10 h))
 
-pub digits-more : (n more : ℕ) {d : ℕ} → (more ≡ 0 → ⊥) → 10 ≤ n → d ≡ digitOf n → digitsOf (more - 1) (n / 10) ++ (d ∷ []) ≡ digitsOf more n
+pub digits-more : (n more : ℕ) {d : ℕ} → (more ≡ 0 → ⊥) → 10 ≤ n → d ≡ lastDigit n → digitsOf (more - 1) (n / 10) ++ (d ∷ []) ≡ digitsOf more n
 unfolding digitsOf
 digits-more n zero g h p = absurd (g refl)
 digits-more n (suc more) g h p =

@@ -23,13 +23,13 @@ pub record Says (before : List ℕ) (at : ℕ) (xs after : List ℕ) (r : ℕ) :
   pub said : r ≡ saidOf before at xs
 
 -- the last decimal digit of a number
-abbrev pub digitOf : ℕ → ℕ
-digitOf n = 48 + n % 10
+abbrev pub lastDigit : ℕ → ℕ
+lastDigit n = 48 + n % 10
 
 -- a number in decimal, with at most so many digits before the last
 unfoldable pub digitsOf : ℕ → ℕ → List ℕ
-digitsOf zero n = digitOf n ∷ []
-digitsOf (suc more) n = if (ltb n 10) (digitOf n ∷ []) (digitsOf more (n / 10) ++ (digitOf n ∷ []))
+digitsOf zero n = lastDigit n ∷ []
+digitsOf (suc more) n = if (ltb n 10) (lastDigit n ∷ []) (digitsOf more (n / 10) ++ (lastDigit n ∷ []))
 
 -- a number below 2^64, which has at most twenty digits
 abbrev pub decimalOf : ℕ → List ℕ

@@ -5,7 +5,7 @@ ghost use mathlib.Core.List.{[], _∷_};
 ghost use Prim.Native.Nat.{_%_};
 ghost use lib.ListN.{replicate};
 ghost use Rattle.io.specs.Digits.{glyph};
-ghost use Rattle.outline.specs.Outline.{Says, digitOf, digitsOf, decimalOf, integerOf, plain, escaped, nameOf, signOf, hexesOf, pointOf, writtenOf, powerOf, leadOf, hexOf, halvedOf, wholeOf, isWhole, digitsToo, doubleOf};
+ghost use Rattle.outline.specs.Outline.{Says, lastDigit, digitsOf, decimalOf, integerOf, plain, escaped, nameOf, signOf, hexesOf, pointOf, writtenOf, powerOf, leadOf, hexOf, halvedOf, wholeOf, isWhole, digitsToo, doubleOf};
 
 // Nothing.
 fn none(out: &mut [u8], at: usize) -> usize
@@ -54,7 +54,7 @@ pub fn repeat(out: &mut [u8], at: usize, x: u8, times: usize) -> usize
 
 // The last decimal digit of a number.
 fn digit(n: u64) -> u8
-    ensures { λ r. ⌜ r ≡ digitOf n ⌝ }
+    ensures { λ r. ⌜ r ≡ lastDigit n ⌝ }
 {
     48 + (n % 10) as u8
 }

@@ -20,7 +20,7 @@ use Rattle.programme.specs.Layout.{unpackOf, allowed}
 use Rattle.programme.specs.Step.{isOver}
 use Rattle.run.specs.Run.{runOf}
 use Rattle.run.specs.Runs.{stepsLeft}
-use Rattle.run.specs.Tick.{Ticked, admitted, refused, countOf, obligationsOf, answered, ranOf, judgedTick, tickOf}
+use Rattle.run.specs.Tick.{Ticked, admitted, refused, countOf, firstPlaces, answered, ranOf, judgedTick, tickOf}
 use Rattle.run.specs.declared.kinds.Answer.{Answer}
 use Rattle.run.specs.declared.kinds.Answer.the-variants.{Running, Finished, Refused}
 use Rattle.run.specs.declared.kinds.Ran.{Ran}
@@ -118,7 +118,7 @@ takes-the-smaller p q s b out n =
 -- what is told and put out, by the first number
 first-says : (s : State) (n : ℕ) (out : List ℕ) (over : Bool) → isOver s ≡ over
     → (answered over s n out .tick .answer ≡ answerBy (headOf s)) × (answered over s n out .out ≡ outBy (headOf s) (s .places) out)
-unfolding answered isOver countOf obligationsOf
+unfolding answered isOver countOf firstPlaces
 first-says s n out true e = (rw e refl, rw e refl)
 first-says s n out false e = (rw e refl, rw e refl)
 

@@ -15,7 +15,7 @@ use Rattle.programme.specs.declared.Head.{Head}
 use Rattle.programme.specs.declared.State.{State}
 use Rattle.programme.specs.Step.{isOver, countBy}
 use Rattle.run.specs.Runs.{stepsLeft}
-use Rattle.run.specs.Tick.{Ticked, admitted, refused, obligationsOf, answered, tickOf}
+use Rattle.run.specs.Tick.{Ticked, admitted, refused, firstPlaces, answered, tickOf}
 use Rattle.run.specs.declared.kinds.Answer.{Answer}
 use Rattle.run.specs.declared.kinds.Answer.the-variants.{Running, Finished, Refused}
 use Rattle.promises.specs.Place.{headOf, Sized}
@@ -75,13 +75,13 @@ RefusedStays =
 abbrev pub again : State → Decision → ℕ → List ℕ → Ticked
 again s d count out = record {
   tick = record { state = s; steps = 0; answer = Finished d count };
-  out = obligationsOf s ++ replicate (length out - count) 0;
+  out = firstPlaces s ++ replicate (length out - count) 0;
 }
 
 abbrev pub AnswersAgain : Type 0
 AnswersAgain =
     (p q : List ℕ) (s : State) (budget : ℕ) (out : List ℕ) (d : Decision) (count : ℕ) → tickOf p q s budget out .tick .answer ≡ Finished d count
-    → (tickOf p q s budget out .out ≡ obligationsOf (tickOf p q s budget out .tick .state) ++ replicate (length out - count) 0)
+    → (tickOf p q s budget out .out ≡ firstPlaces (tickOf p q s budget out .tick .state) ++ replicate (length out - count) 0)
     × ((r : List ℕ) (m more : ℕ) (lent : List ℕ) → judgeRequestOf r ≡ judged.Accepted m → 1000 ≤ length lent
     → tickOf p r (tickOf p q s budget out .tick .state) more lent ≡ again (tickOf p q s budget out .tick .state) d count lent)
 

@@ -32,7 +32,7 @@ use Rattle.run.specs.declared.kinds.Answer.the-variants.{Running, Finish
 use Rattle.run.specs.declared.kinds.Ran.{Ran}
 use Rattle.run.specs.declared.kinds.Tick.{Tick}
 use Rattle.run.specs.Run.{goOn, runOf, numberAfter}
-use Rattle.run.specs.Tick.{admitted, countOf, obligationsOf, answered, ranOf, tickOf}
+use Rattle.run.specs.Tick.{admitted, countOf, firstPlaces, answered, ranOf, tickOf}
 use Rattle.run.proofs.Runs.{runs-stay-allowed}
 
 -- a run, after k of its steps
@@ -241,7 +241,7 @@ module _ (p q : List ℕ) (s : State) (b : ℕ) (out : List ℕ) where
 
       pub tick-finished : (x : ℕ) → x ≡ countBy (h .reg) h → h .over ≡ true → o ≡ take x (r .state .places) ++ replicate (length out - x) 0
           → TickIs (record { state = r .state; steps = r .steps; answer = y }) o
-      unfolding answered countOf obligationsOf
+      unfolding answered countOf firstPlaces
       tick-finished x c z f = (rw (d ∙ sym (answer-finished h x c z), ended true z, c, u) refl, rw (f, ended true z, c, u) refl)
 
 -- a run's end is a state that the layout allows, so its obligations are at most 1,000

@@ -36,15 +36,15 @@ refused r s out = record { tick = record { state = s; steps = 0; answer = Refuse
 unfoldable pub countOf : State → ℕ
 countOf s = let h = unpackOf (s .head) in countBy (h .reg) h
 
-unfoldable pub obligationsOf : State → List ℕ
-obligationsOf s = take (countOf s) (s .places)
+unfoldable pub firstPlaces : State → List ℕ
+firstPlaces s = take (countOf s) (s .places)
 
 -- the answer after a run: running; or finished, with the obligations first and zero in every other place
 unfoldable pub answered : Bool → State → ℕ → List ℕ → Ticked
 answered false s n out = record { tick = record { state = s; steps = n; answer = Running }; out = out }
 answered true s n out = record {
   tick = record { state = s; steps = n; answer = Finished (unpackOf (s .head) .reg) (countOf s) };
-  out = obligationsOf s ++ replicate (length out - countOf s) 0;
+  out = firstPlaces s ++ replicate (length out - countOf s) 0;
 }
 
 unfoldable pub ranOf : Bool → Ran → State → List ℕ → Ticked

@@ -9,7 +9,7 @@ use borrow.Author.Tests.{eqb-true, ltb-true, ltb-false}
 use Rattle.record.specs.Bytes.{byteOf, spanOf}
 use Rattle.fields.specs.Fields.{kindAt, fieldOk}
 use Rattle.fields.proofs.First.{by, first-reach-all}
-use Rattle.judge.specs.Place.{numberOf, rankAt, standsOk, childRule, brokenAt, placeOk}
+use Rattle.judge.specs.Place.{kindNumber, rankAt, standsOk, childRule, brokenAt, placeOk}
 use Rattle.judge.specs.Walk.{Walk}
 use Rattle.judge.specs.Row.{Row}
 use Rattle.judge.specs.Exactly.{Sized, Keeps}
@@ -31,7 +31,7 @@ abbrev Between : (ℕ → Bool) → ℕ → ℕ → Type 0
 Between f i e = (j : ℕ) → i ≤ j → j < e → f j ≡ true
 
 -- the walk of line 1's children
-line-walk : (b : List ℕ) (n : ℕ) → Sized b n → placeOk b 0 ≡ true → Between (fieldOk b) 0 n → Walk b 0 1 n 1 (numberOf (kindAt b 0)) (byteOf b 0 4) (byteOf b 0 4) 0
+line-walk : (b : List ℕ) (n : ℕ) → Sized b n → placeOk b 0 ≡ true → Between (fieldOk b) 0 n → Walk b 0 1 n 1 (kindNumber (kindAt b 0)) (byteOf b 0 4) (byteOf b 0 4) 0
 line-walk b n s place fs =
     let v = top-kept b n s place in
     let some = s .some in
@@ -106,7 +106,7 @@ abbrev parent : ℕ → ℕ → ℕ → ℕ → Parent
 parent d pn gc pc = record { above = d; number = pn; category = pc; grand = gc }
 
 sound-more : (b : List ℕ) (p i e d pn gc pc er : ℕ) (w : Walk b p i e d pn gc pc er) (h : i < e) → fieldOk b i ≡ true → placeOk b i ≡ true
-    → soundAt (parent (d + 1) (numberOf (kindAt b i)) pc (byteOf b i 4)) 0 b (i + 1) (i + spanOf b i - (i + 1)) ≡ true
+    → soundAt (parent (d + 1) (kindNumber (kindAt b i)) pc (byteOf b i 4)) 0 b (i + 1) (i + spanOf b i - (i + 1)) ≡ true
     → soundAt (parent d pn gc pc) (rankAt b i) b (i + spanOf b i) (e - (i + spanOf b i)) ≡ true
     → soundAt (parent d pn gc pc) er b i (e - i) ≡ true
 sound-more b p i e d pn gc pc er w h fs ok k r =
@@ -131,7 +131,7 @@ soundF (suc f) b p i e d pn gc pc er l w fs ps = by (ltb i e)
     let ok = ps i (omega arith) h in
     let o = bounds b (passes b w h ok) in
     sound-more b p i e d pn gc pc er w h (fs i (omega arith) h) ok
-    (soundF f b i (i + 1) (i + spanOf b i) (d + 1) (numberOf (kindAt b i)) pc (byteOf b i 4) 0 (omega arith) (kids b (passes b w h ok) refl)
+    (soundF f b i (i + 1) (i + spanOf b i) (d + 1) (kindNumber (kindAt b i)) pc (byteOf b i 4) 0 (omega arith) (kids b (passes b w h ok) refl)
     (λ j a z. fs j (omega arith) (omega arith)) (λ j a z. ps j (omega arith) (omega arith)))
     (soundF f b p (i + spanOf b i) e d pn gc pc (rankAt b i) (omega arith) (rest-walk b w h ok (λ j a z. ps j (omega arith) (omega arith)))
     (λ j a z. fs j (omega arith) z) (λ j a z. ps j (omega arith) z)))
@@ -145,6 +145,6 @@ kept-below b n k =
       sized = k .sized;
       fields = k .fields 0 (omega arith);
       place = p;
-      sound = soundF (n - 1) b 0 1 n 1 (numberOf (kindAt b 0)) (byteOf b 0 4) (byteOf b 0 4) 0 (omega arith) (line-walk b n (k .sized) p (λ j a z. k .fields j z))
+      sound = soundF (n - 1) b 0 1 n 1 (kindNumber (kindAt b 0)) (byteOf b 0 4) (byteOf b 0 4) 0 (omega arith) (line-walk b n (k .sized) p (λ j a z. k .fields j z))
           (λ j a z. k .fields j z) (λ j a z. k .places j z);
     }

@@ -15,7 +15,7 @@ use Rattle.record.proofs.Forests.{span-stated, forest-step}
 use Rattle.fields.specs.Fields.{kindAt}
 use Rattle.fields.specs.declared.Kind.{Kind}
 use Rattle.fields.specs.declared.Kind.the-variants.{PolicySet, Policy}
-use Rattle.judge.specs.Place.{mostDepth, numberOf, rankAt, standsOk}
+use Rattle.judge.specs.Place.{mostDepth, kindNumber, rankAt, standsOk}
 use Rattle.judge.proofs.Laws.{stands-parts, all-but}
 use Rattle.judge.proofs.Sound.{under-is}
 use Rattle.structure.specs.Subtrees.{recordAt, subtreesIn, subtreesOf}
@@ -62,7 +62,7 @@ move u a g e b (node i kids rest) q l h =
     (move u a g (rankAt r 0) b rest q (omega arith) (z .3))
 
 -- line 1 of a book, by the place where it stands
-line-at : (b : List ℕ) (i : ℕ) → lineOne (recordAt b i) ≡ record { above = 1; number = numberOf (kindAt b i); category = byteOf b i 4; grand = byteOf b i 4 }
+line-at : (b : List ℕ) (i : ℕ) → lineOne (recordAt b i) ≡ record { above = 1; number = kindNumber (kindAt b i); category = byteOf b i 4; grand = byteOf b i 4 }
 line-at b i = rw (kind-same (recordAt b i) 0 b i (record-but-span b i), later-byte (recordAt b i) 0 b i (record-but-span b i) 4 (omega arith) (omega arith)) refl
 
 not-five : (n : ℕ) → among 1 2 n ≡ true → n ≡ 5 → ⊥
@@ -90,7 +90,7 @@ policy-is-book u e b i some kind x =
     )
 
 -- a policy or set may stand in a set before its obligations
-policy-stands : (k : Kind) (c e g : ℕ) → among 1 2 (numberOf k) ≡ true → e < 6 → standsOk 1 k c e g ≡ true
+policy-stands : (k : Kind) (c e g : ℕ) → among 1 2 (kindNumber k) ≡ true → e < 6 → standsOk 1 k c e g ≡ true
 unfolding standsOk
 policy-stands k c e g a l =
     let o = le-leb (e + 0) 5 (omega arith) in

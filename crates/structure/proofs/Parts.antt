@@ -12,7 +12,7 @@ use Rattle.record.specs.Forest.{spanIn}
 use Rattle.record.proofs.Choose.{both-parts, no-false}
 use Rattle.record.proofs.Forests.{span-pos, span-le}
 use Rattle.fields.specs.Fields.{kindAt, fieldOk}
-use Rattle.judge.specs.Place.{numberOf, rankAt}
+use Rattle.judge.specs.Place.{kindNumber, rankAt}
 use Rattle.judge.proofs.Laws.{top-ok}
 use Rattle.judge.proofs.Sound.{top-kept}
 use Rattle.judge.proofs.Exactly.{accepted-keeps, kept-is-accepted}
@@ -106,17 +106,17 @@ parts-are-accepted b n p = kept-is-accepted b n (parts-are-kept b n p)
 
 -- the book as one subtree
 pub book-parts : (r : List ℕ) (kids rest : Subtrees) → soundBook (subtree r kids rest) ≡ true
-    → (rest ≡ noSubtree) × (recordOk r (recordCount kids) ≡ true) × (among 1 2 (numberOf (kindAt r 0)) ≡ true) × (sound (lineOne r) 0 kids ≡ true)
+    → (rest ≡ noSubtree) × (recordOk r (recordCount kids) ≡ true) × (among 1 2 (kindNumber (kindAt r 0)) ≡ true) × (sound (lineOne r) 0 kids ≡ true)
 unfolding soundBook
 book-parts r kids noSubtree e =
-    let a : Bool = among 1 2 (numberOf (kindAt r 0)) in
+    let a : Bool = among 1 2 (kindNumber (kindAt r 0)) in
     let s : Bool = sound (lineOne r) 0 kids in
     let x = both-parts (recordOk r (recordCount kids)) (both a s) e in
     let y = both-parts a s (x .1) in
     (refl, x .0, y .0, y .1)
 book-parts r kids (subtree a x y) e = no-false e
 
-pub parts-book : (r : List ℕ) (kids : Subtrees) → recordOk r (recordCount kids) ≡ true → among 1 2 (numberOf (kindAt r 0)) ≡ true
+pub parts-book : (r : List ℕ) (kids : Subtrees) → recordOk r (recordCount kids) ≡ true → among 1 2 (kindNumber (kindAt r 0)) ≡ true
     → sound (lineOne r) 0 kids ≡ true → soundBook (subtree r kids noSubtree) ≡ true
 unfolding soundBook
 parts-book r kids x a s = rw (x, a, s) refl
@@ -126,7 +126,7 @@ pub record BookAt (b : List ℕ) (i s : ℕ) : Type 0 where
   pub some : 0 < s
   pub fields : fieldOk b i ≡ true
   pub span : spanOf b i ≡ s
-  pub kind : among 1 2 (numberOf (kindAt b i)) ≡ true
+  pub kind : among 1 2 (kindNumber (kindAt b i)) ≡ true
   pub below : soundAt (lineOne (recordAt b i)) 0 b (i + 1) (s - 1) ≡ true
 
 pub book-of : (b : List ℕ) (i s : ℕ) → soundBook (subtreesOf b i s) ≡ true → BookAt b i s

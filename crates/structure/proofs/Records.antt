@@ -17,12 +17,12 @@ use Rattle.record.proofs.Table.{length-tab, getD-tab}
 use Rattle.fields.specs.Fields.{kindAt, typeAt, finite, zeros, plainOk, sectionOk, comparesOk, obligationOk, rulesOf, fieldOk}
 use Rattle.fields.specs.declared.Kind.{Kind}
 use Rattle.fields.specs.declared.Kind.the-variants.{PolicySet, Policy, Rule, Section, Conjunction, Match, Logic, Not, Comparison, Obligation, Nothing}
-use Rattle.judge.specs.Place.{mostDepth, numberOf, rankAt, standsOk}
+use Rattle.judge.specs.Place.{mostDepth, kindNumber, rankAt, standsOk}
 use Rattle.structure.specs.Subtrees.{recordAt, SameRecord, SameButSpan}
 use Rattle.structure.specs.Sound.{Parent, asParent, lineOne, recordOk, childOk}
 
 -- line 1, and what may stand for it, is one of two kinds
-pub policy-kind : (k : Kind) → among 1 2 (numberOf k) ≡ true → (k ≡ PolicySet) ⊎ (k ≡ Policy)
+pub policy-kind : (k : Kind) → among 1 2 (kindNumber k) ≡ true → (k ≡ PolicySet) ⊎ (k ≡ Policy)
 policy-kind PolicySet a = inl refl
 policy-kind Policy a = inr refl
 policy-kind Rule a = no-false a

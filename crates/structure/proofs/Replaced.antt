@@ -12,7 +12,7 @@ use Rattle.record.specs.Bytes.{spanOf}
 use Rattle.fields.specs.Fields.{kindAt}
 use Rattle.fields.specs.declared.Kind.{Kind}
 use Rattle.fields.proofs.First.{by}
-use Rattle.judge.specs.Place.{endOf, parentOf, numberOf, rankAt}
+use Rattle.judge.specs.Place.{endOf, parentOf, kindNumber, rankAt}
 use Rattle.judge.proofs.Laws.{parent-ge, top-ok}
 use Rattle.judge.proofs.Sound.{top-kept}
 use Rattle.structure.specs.Subtrees.{subtreesOf, SameRecords}
@@ -26,7 +26,7 @@ use Rattle.structure.proofs.Parts.{by-own-bytes, by-themselves}
 use Rattle.structure.proofs.Spanned.{anySpan, fields-kept}
 
 -- line 1 may state any span
-top-any : (k : Kind) → among 1 2 (numberOf k) ≡ true → anySpan k ≡ true
+top-any : (k : Kind) → among 1 2 (kindNumber k) ≡ true → anySpan k ≡ true
 top-any k a = ⊎-elim (ap anySpan) (ap anySpan) (policy-kind k a)
 
 -- no child before a child of line 1 reaches over it

@@ -10,7 +10,7 @@ use Rattle.record.specs.Bytes.{Bytes, size, mostRecords, spanOf}
 use Rattle.record.specs.Forest.{forest, height}
 use Rattle.fields.specs.Fields.{kindAt, obligationsOf}
 use Rattle.fields.specs.declared.Kind.the-variants.{PolicySet, Obligation}
-use Rattle.judge.specs.Place.{mostDepth, parentOf, numberOf, rankOf, rankAt}
+use Rattle.judge.specs.Place.{mostDepth, parentOf, kindNumber, rankOf, rankAt}
 use Rattle.judge.specs.Judge.{judgeOf}
 use Rattle.judge.specs.Exactly.{Sized, Keeps}
 use Rattle.judge.specs.declared.Judged.the-variants.{Accepted}
@@ -50,12 +50,12 @@ ByThemselves = (u : Parent) (e : ℕ) (b : List ℕ) (i s : ℕ) → soundAt u e
 -- and its own are within the depth
 abbrev pub PolicyIsBook : Type 0
 PolicyIsBook =
-    (u : Parent) (e : ℕ) (b : List ℕ) (i : ℕ) → 1 ≤ spanOf b i → among 1 2 (numberOf (kindAt b i)) ≡ true → soundAt u e b i (spanOf b i) ≡ true
+    (u : Parent) (e : ℕ) (b : List ℕ) (i : ℕ) → 1 ≤ spanOf b i → among 1 2 (kindNumber (kindAt b i)) ≡ true → soundAt u e b i (spanOf b i) ≡ true
     → (soundBook (subtreesOf b i (spanOf b i)) ≡ true) × (u .above + height (forest b i (spanOf b i)) ≤ mostDepth)
 
 abbrev pub BookMayStand : Type 0
 BookMayStand =
-    (u : Parent) (e : ℕ) (b : List ℕ) (i s : ℕ) → u .number ≡ numberOf PolicySet → e < rankOf Obligation 0 → soundBook (subtreesOf b i s) ≡ true
+    (u : Parent) (e : ℕ) (b : List ℕ) (i s : ℕ) → u .number ≡ kindNumber PolicySet → e < rankOf Obligation 0 → soundBook (subtreesOf b i s) ≡ true
     → u .above + height (forest b i s) ≤ mostDepth → soundAt u e b i s ≡ true
 
 -- c is b with t other records for the s records from i on; of line 1 the span alone differs, which is c's number of records

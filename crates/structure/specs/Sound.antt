@@ -9,7 +9,7 @@ use lib.ListN.{length}
 use Rattle.record.specs.Choose.{both, among}
 use Rattle.record.specs.Bytes.{size, byteOf, spanOf}
 use Rattle.fields.specs.Fields.{kindAt, fieldOk}
-use Rattle.judge.specs.Place.{mostDepth, numberOf, rankAt, standsOk, placeOk}
+use Rattle.judge.specs.Place.{mostDepth, kindNumber, rankAt, standsOk, placeOk}
 use Rattle.judge.specs.Exactly.{Sized}
 use Rattle.structure.specs.Subtrees.{Subtrees, noSubtree, subtree, recordCount, subtreesOf, sliceOf}
 
@@ -22,10 +22,10 @@ pub record Parent : Type 0 where
 
 -- record i as a parent, itself a child of u; and line 1 as a parent, which stands for its own parent
 abbrev pub asParent : Parent → List ℕ → ℕ → Parent
-asParent u b i = record { above = u .above + 1; number = numberOf (kindAt b i); category = byteOf b i 4; grand = u .category }
+asParent u b i = record { above = u .above + 1; number = kindNumber (kindAt b i); category = byteOf b i 4; grand = u .category }
 
 abbrev pub lineOne : List ℕ → Parent
-lineOne b = record { above = 1; number = numberOf (kindAt b 0); category = byteOf b 0 4; grand = byteOf b 0 4 }
+lineOne b = record { above = 1; number = kindNumber (kindAt b 0); category = byteOf b 0 4; grand = byteOf b 0 4 }
 
 -- a record by itself, with n records below it: it has all its bytes, keeps the field rules and states its span
 unfoldable pub recordOk : List ℕ → ℕ → Bool
@@ -49,7 +49,7 @@ rankAfter e (subtree r kids rest) = rankAfter (rankAt r 0) rest
 -- a sound book: one subtree, of a policy set or a policy, whose children are sound
 unfoldable pub soundBook : Subtrees → Bool
 soundBook noSubtree = false
-soundBook (subtree r kids noSubtree) = both (recordOk r (recordCount kids)) (both (among 1 2 (numberOf (kindAt r 0))) (sound (lineOne r) 0 kids))
+soundBook (subtree r kids noSubtree) = both (recordOk r (recordCount kids)) (both (among 1 2 (kindNumber (kindAt r 0))) (sound (lineOne r) 0 kids))
 soundBook (subtree r kids (subtree r′ kids′ rest′)) = false
 
 -- the s records from i on are sound as children of u, after a child of rank e

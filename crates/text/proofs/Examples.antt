@@ -6,7 +6,7 @@ use Rattle.record.specs.Refusals.{badLine, noRoom}
 use Rattle.record.specs.Below.{allBelow}
 use Rattle.record.specs.Table.{tab}
 use Rattle.record.proofs.BookA.{bytes, lines, bookA}
-use Rattle.text.specs.Hex.{digitOf, isDigit, valueOf, letterOf}
+use Rattle.text.specs.Hex.{digitOf, isDigit, digitValue, letterOf}
 use Rattle.text.specs.Text.{book, goodLine, judgeFrom, readOf, readJudged, byteAt, textAt, writeOf}
 use Rattle.text.specs.declared.Filled.the-variants.{Places, Refused}
 
@@ -43,7 +43,7 @@ unfolding text line-1 line-2 line-3 line-4 line-5 line-6 readOf readJudged judge
 read-a = refl
 
 bytes-a : tab (byteAt text) 96 ≡ records
-unfolding text line-1 line-2 line-3 line-4 line-5 line-6 records bytes lines bookA tab byteAt valueOf digitOf
+unfolding text line-1 line-2 line-3 line-4 line-5 line-6 records bytes lines bookA tab byteAt digitValue digitOf
 bytes-a = refl
 
 short-a : readOf book text 95 ≡ Refused noRoom

@@ -14,7 +14,7 @@ use Rattle.record.specs.Table.{tab}
 use Rattle.record.proofs.Choose.{both-left, both-right}
 use Rattle.record.proofs.Below.{all-of, all-at}
 use Rattle.record.proofs.Table.{getD-tab, length-tab}
-use Rattle.text.specs.Hex.{letterOf, valueOf, isDigit}
+use Rattle.text.specs.Hex.{letterOf, digitValue, isDigit}
 use Rattle.text.specs.Text.{textAt, byteAt, digitAt, goodLine, judgeFrom, readOf, writeOf, lineLength, digits}
 use Rattle.record.specs.Bytes.{Bytes, size}
 use Rattle.text.specs.RoundTrip.{upper, WrittenIsRead, ReadIsWritten}
@@ -114,7 +114,7 @@ module _ (s : List ℕ) (n : ℕ) (bytes : Bytes s) (good : (j : ℕ) → j < n 
   unfolding goodLine
   line-end q g = eqb-true (getD s (lineLength * q + digits) 0) 10 (both-left _ _ (both-right (leb (lineLength * q + lineLength) (length s)) _ (good q g)))
 
-  byte-is : (q m : ℕ) → q < n → m < size → getD (tab (byteAt s) (size * n)) (size * q + m) 0 ≡ 16 * valueOf (getD s (lineLength * q + 2 * m) 0) + valueOf (getD s (lineLength * q + 2 * m + 1) 0)
+  byte-is : (q m : ℕ) → q < n → m < size → getD (tab (byteAt s) (size * n)) (size * q + m) 0 ≡ 16 * digitValue (getD s (lineLength * q + 2 * m) 0) + digitValue (getD s (lineLength * q + 2 * m + 1) 0)
   unfolding byteAt
   byte-is q m g h =
       let a : (size * q + m) / size ≡ q = omega arith in
@@ -124,14 +124,14 @@ module _ (s : List ℕ) (n : ℕ) (bytes : Bytes s) (good : (j : ℕ) → j < n 
   capital-even : (q m : ℕ) → q < n → m < size → textAt (tab (byteAt s) (size * n)) (lineLength * q + 2 * m) ≡ upper (getD s (lineLength * q + 2 * m) 0)
   capital-even q m g h =
       let hi = getD s (lineLength * q + 2 * m) 0 in
-      let e : getD (tab (byteAt s) (size * n)) (size * q + m) 0 / 16 ≡ valueOf hi =
+      let e : getD (tab (byteAt s) (size * n)) (size * q + m) 0 / 16 ≡ digitValue hi =
       omega (arith, byte-is q m g h, value-small (getD s (lineLength * q + 2 * m + 1) 0) (bytes (lineLength * q + 2 * m + 1))) in
       text-even (tab (byteAt s) (size * n)) q m h ∙ ap letterOf e ∙ letter-value hi (bytes (lineLength * q + 2 * m)) (line-digit q (2 * m) g (omega arith))
 
   capital-odd : (q m : ℕ) → q < n → m < size → textAt (tab (byteAt s) (size * n)) (lineLength * q + 2 * m + 1) ≡ upper (getD s (lineLength * q + 2 * m + 1) 0)
   capital-odd q m g h =
       let lo = getD s (lineLength * q + 2 * m + 1) 0 in
-      let e : getD (tab (byteAt s) (size * n)) (size * q + m) 0 % 16 ≡ valueOf lo =
+      let e : getD (tab (byteAt s) (size * n)) (size * q + m) 0 % 16 ≡ digitValue lo =
       omega (arith, byte-is q m g h, value-small lo (bytes (lineLength * q + 2 * m + 1))) in
       let i : lineLength * q + (2 * m + 1) ≡ lineLength * q + 2 * m + 1 = omega arith in
       text-odd (tab (byteAt s) (size * n)) q m h ∙ letter-last _ ∙ ap letterOf e ∙ letter-value lo (bytes (lineLength * q + 2 * m + 1)) (rw i at (line-digit q (2 * m + 1) g (omega arith)))

@@ -10,7 +10,7 @@ use Rattle.record.specs.Refusals as refusals
 use Rattle.record.specs.Refusals.{badLine, tooMany, noRecord, cutShort, noRoom}
 use Rattle.record.specs.Below.{allBelow}
 use Rattle.record.specs.Table.{tab}
-use Rattle.text.specs.Hex.{isDigit, valueOf, letterOf}
+use Rattle.text.specs.Hex.{isDigit, digitValue, letterOf}
 use Rattle.text.specs.declared.Kind.{Kind}
 use Rattle.text.specs.declared.Judged.{Judged}
 use Rattle.text.specs.declared.Judged.the-variants.{Lines, Wrong, Over}
@@ -76,7 +76,7 @@ readOf k text room = readJudged k (judgeFrom text (k .most) 0) room
 unfoldable pub byteAt : List ℕ → ℕ → ℕ
 byteAt text i =
     let p = lineLength * (i / size) + 2 * (i % size) in
-    16 * valueOf (getD text p 0) + valueOf (getD text (p + 1) 0)
+    16 * digitValue (getD text p 0) + digitValue (getD text (p + 1) 0)
 
 -- what writing answers, by the records and the places of the output: 3 (book only), 4, 2, 7
 unfoldable pub writeOf : Kind → List ℕ → ℕ → Filled

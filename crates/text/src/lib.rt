@@ -7,7 +7,7 @@ ghost use lib.ListN.{length, drop};
 ghost use Rattle.record.specs.Bytes.{size};
 ghost use Rattle.record.specs.Below.{allBelow};
 ghost use Rattle.record.specs.Table.{tab};
-ghost use Rattle.text.specs.Hex.{digitOf, isDigit, valueOf, letterOf};
+ghost use Rattle.text.specs.Hex.{digitOf, isDigit, digitValue, letterOf};
 ghost use Rattle.text.specs.Text.{book, request, missing, digits, lineLength, digitAt, goodLine, judgeFrom, byteAt, textAt, readOf, writeOf, outputAfter};
 
 // The digits of a line, and its bytes: the digits and LF.
@@ -85,7 +85,7 @@ fn is_digit(c: u8) -> bool
 
 // The value of a digit, and 0 of any other byte.
 fn value(c: u8) -> u8
-    ensures { λ r. ⌜ (r ≡ valueOf c) × (r < 16) ⌝ }
+    ensures { λ r. ⌜ (r ≡ digitValue c) × (r < 16) ⌝ }
 {
     match digit(c) {
         Nibble::Value(v) => v,
