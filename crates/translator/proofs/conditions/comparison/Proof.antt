@@ -1,0 +1,18 @@
+use Rattle.translator.proofs.Emit.{compared}
+use borrow.Author.Needs.{needs}
+use Rattle.translator.proofs.conditions.comparison.Statement.{statement}
+use Rattle.translator.proofs.conditions.comparison.Tie as tie
+
+returns : tie.Need-returns
+returns c = compared _ (c .before .before .before .before .before .before .before .before .before .comparison-at .ensures) (c .before .before .before .compare-word .ensures) (c .before .before .before .before .before .before .before .prepend .ensures) (c .before .before .prepend2 .ensures)
+
+pub comparison-spec : {M : Type 1} → statement M
+comparison-spec =
+    tie.close
+    (tie.spec
+    (λ c κs. search needs)
+    (λ c κs. search needs)
+    (λ c κs. search needs)
+    (λ c κs. search needs)
+    (λ c. search needs)
+    returns)

@@ -1,0 +1,89 @@
+use native.Mathlib.Omega.{arith}
+use borrow.Author.Needs.{needs}
+use Rattle.translator.proofs.Links.{piece-of}
+use Rattle.translator.proofs.Turns.{Going, go-begin, go-room, go-again, go-skip, go-end, obligationsTo, obligations-stop, obligations-turn, obligations-skip, obligations-grow}
+use Rattle.translator.proofs.Emit.{nothing, same-as, differs, effect-at, obliged, obligations-none}
+use Rattle.translator.proofs.policies.obligations.Statement.{statement}
+use Rattle.translator.proofs.policies.obligations.Tie as tie
+
+abbrev Inv-loop : tie.InvT-loop
+Inv-loop book elders i stop out₀ end next₀ at₀ start₀ out next at start = Going book elders i stop next at (obligationsTo book stop next) end out₀ out start
+
+abbrev μ-loop : tie.MeasureT-loop
+μ-loop book elders i stop out₀ end next₀ at₀ start₀ out next at start = next
+
+returns : tie.Need-returns Inv-loop μ-loop
+returns c = nothing (obligations-none _ _ _ (omega (arith, c .if1 .taken)))
+
+loop-holds : tie.Need-loop-holds Inv-loop μ-loop
+loop-holds c = go-begin (obligationsTo _ _) _ _ _ (obligations-stop _ _) (omega (arith, c .before .if1 .left, c .before .before .before .before .pre .0)) (c .before .before .before .before .pre .4) (c .elder .ensures)
+
+byte-requires : tie.Need-byte-requires Inv-loop μ-loop
+byte-requires c κs = let p = (piece-of (c .before .loop .inv .row) (c .loop-test .taken)) in (search needs, omega (arith, p .upto, p .inside, c .before .before .before .before .before .before .pre .2))
+
+elder-requires-2 : tie.Need-elder-requires-2 Inv-loop μ-loop
+elder-requires-2 c κs = let p = (piece-of (c .before .before .before .loop .inv .row) (c .before .before .loop-test .taken)) in omega (arith, p .upto, p .inside, c .before .before .before .before .before .before .before .before .pre .1)
+
+loop-less : tie.Need-loop-less Inv-loop μ-loop
+loop-less c = (piece-of (c .before .before .before .before .loop .inv .row) (c .before .before .before .loop-test .taken)) .upto
+
+loop-again : tie.Need-loop-again Inv-loop μ-loop
+loop-again c = go-skip (obligationsTo _ _) (c .before .before .before .before .loop .inv) _ (c .before .before .before .loop-test .taken) (obligations-skip _ _ (piece-of (c .before .before .before .before .loop .inv .row) (c .before .before .before .loop-test .taken)) (differs 8 (c .before .before .byte .ensures .0) (c .before .if2 .taken))) (c .elder2 .ensures)
+
+byte-requires-2 : tie.Need-byte-requires-2 Inv-loop μ-loop
+byte-requires-2 c κs = let p = (piece-of (c .before .before .before .loop .inv .row) (c .before .before .loop-test .taken)) in (search needs, omega (arith, p .upto, p .inside, c .before .before .before .before .before .before .before .before .pre .2))
+
+mul-big2 : tie.Need-mul-big2 Inv-loop μ-loop
+mul-big2 c = let p = (piece-of (c .before .before .before .before .before .loop .inv .row) (c .before .before .before .before .loop-test .taken)) in omega (arith, p .upto, p .inside, c .before .before .before .before .before .before .before .before .before .before .pre .1)
+
+add-big2 : tie.Need-add-big2 Inv-loop μ-loop
+add-big2 c = let p = (piece-of (c .before .before .before .before .before .loop .inv .row) (c .before .before .before .before .loop-test .taken)) in omega (arith, p .upto, p .inside, c .before .before .before .before .before .before .before .before .before .before .pre .1)
+
+big2-requires : tie.Need-big2-requires Inv-loop μ-loop
+big2-requires c κs = let p = (piece-of (c .before .before .before .before .before .loop .inv .row) (c .before .before .before .before .loop-test .taken)) in omega (arith, p .upto, p .inside, c .before .before .before .before .before .before .before .before .before .before .pre .2)
+
+single-requires : tie.Need-single-requires Inv-loop μ-loop
+single-requires c κs = (go-room (obligationsTo _ _) (c .before .before .before .before .before .before .before .loop .inv) (obligations-grow _ _) (c .before .before .before .before .before .before .loop-test .taken) (c .before .before .before .before .before .before .before .before .before .before .before .before .pre .3) (obligations-turn _ _ (piece-of (c .before .before .before .before .before .before .before .loop .inv .row) (c .before .before .before .before .before .before .loop-test .taken)) (same-as (c .before .before .before .before .before .byte .ensures .0) (c .before .before .before .before .if2 .left))), search needs, search needs)
+
+elder-requires-3 : tie.Need-elder-requires-3 Inv-loop μ-loop
+elder-requires-3 c κs = let p = (piece-of (c .before .before .before .before .before .before .before .before .before .before .loop .inv .row) (c .before .before .before .before .before .before .before .before .before .loop-test .taken)) in omega (arith, p .upto, p .inside, c .before .before .before .before .before .before .before .before .before .before .before .before .before .before .before .pre .1)
+
+loop-less-2 : tie.Need-loop-less-2 Inv-loop μ-loop
+loop-less-2 c = (piece-of (c .before .before .before .before .before .before .before .before .before .before .before .loop .inv .row) (c .before .before .before .before .before .before .before .before .before .before .loop-test .taken)) .upto
+
+loop-again-2 : tie.Need-loop-again-2 Inv-loop μ-loop
+loop-again-2 c = go-again (obligationsTo _ _) (c .before .before .before .before .before .before .before .before .before .before .before .loop .inv) _ _ (c .before .before .before .before .before .before .before .before .before .before .loop-test .taken) (obligations-turn _ _ (piece-of (c .before .before .before .before .before .before .before .before .before .before .before .loop .inv .row) (c .before .before .before .before .before .before .before .before .before .before .loop-test .taken)) (same-as (c .before .before .before .before .before .before .before .before .before .byte .ensures .0) (c .before .before .before .before .before .before .before .before .if2 .left))) (obliged _ _ (effect-at (c .before .before .before .before .before .before .before .byte2 .ensures .0) (c .before .before .before .before .before .before .effect-code .ensures .0)) (c .before .before .before .before .before .big2 .ensures) (c .before .before .before .single .ensures)) (c .elder3 .ensures)
+
+same-length : tie.Need-same-length Inv-loop μ-loop
+same-length c = c .before .loop .inv .long
+
+returns-2 : tie.Need-returns-2 Inv-loop μ-loop
+returns-2 c = go-end (obligationsTo _ _) (c .before .loop .inv) (c .loop-test .left)
+
+pub obligations-spec : {M : Type 1} → statement M
+obligations-spec =
+    tie.close
+    (tie.spec
+    Inv-loop
+    μ-loop
+    returns
+    (λ c κs. search needs)
+    loop-holds
+    byte-requires
+    elder-requires-2
+    loop-less
+    loop-again
+    byte-requires-2
+    (λ c κs. search needs)
+    mul-big2
+    add-big2
+    big2-requires
+    (λ c. search needs)
+    (λ c. search needs)
+    (λ c. search needs)
+    single-requires
+    elder-requires-3
+    loop-less-2
+    loop-again-2
+    same-length
+    returns-2)

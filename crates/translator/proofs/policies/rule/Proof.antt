@@ -1,0 +1,36 @@
+use mathlib.Core.Path.{refl}
+use borrow.Author.Needs.{needs}
+use Rattle.translator.proofs.Links.{linked-below}
+use Rattle.translator.proofs.Turns.{rule-to}
+use Rattle.translator.proofs.Emit.{third-fits, second-fits, first-fits, three, behind, ruled, effect-at}
+use Rattle.translator.proofs.policies.rule.Statement.{statement}
+use Rattle.translator.proofs.policies.rule.Tie as tie
+
+single-requires : tie.Need-single-requires
+single-requires c κs = (third-fits (rule-to _ _ _ _ _ refl) _ (c .before .before .before .before .before .pre .3), search needs, search needs)
+
+when-requires : tie.Need-when-requires
+when-requires c κs = (search needs, search needs, search needs, second-fits (rule-to _ _ _ _ _ refl) (c .before .before .before .before .before .before .before .before .before .pre .3) (ruled _ _ (effect-at (c .before .before .before .before .before .before .byte .ensures .0) (c .before .before .before .before .before .effect-code .ensures .0)) (c .before .before .before .single .ensures)), search needs, linked-below _ _ _ _ (c .before .before .before .before .before .before .before .before .before .pre .5))
+
+target-requires : tie.Need-target-requires
+target-requires c κs = (search needs, search needs, search needs, first-fits (rule-to _ _ _ _ _ (behind (c .before .before .before .when .ensures))) (c .before .before .before .before .before .before .before .before .before .before .before .before .before .pre .3) (ruled _ _ (effect-at (c .before .before .before .before .before .before .before .before .before .before .byte .ensures .0) (c .before .before .before .before .before .before .before .before .before .effect-code .ensures .0)) (c .before .before .before .before .before .before .before .single .ensures)) (c .before .before .before .when .ensures), search needs, linked-below _ _ _ _ (c .before .before .before .before .before .before .before .before .before .before .before .before .before .pre .5))
+
+returns : tie.Need-returns
+returns c = three (rule-to _ _ _ _ _ (behind (c .before .before .before .before .before .before .when .ensures))) (ruled _ _ (effect-at (c .before .before .before .before .before .before .before .before .before .before .before .before .before .byte .ensures .0) (c .before .before .before .before .before .before .before .before .before .before .before .before .effect-code .ensures .0)) (c .before .before .before .before .before .before .before .before .before .before .single .ensures)) (c .before .before .before .before .before .before .when .ensures) (c .before .before .target .ensures)
+
+pub rule-spec : {M : Type 1} → statement M
+rule-spec =
+    tie.close
+    (tie.spec
+    (λ c κs. search needs)
+    (λ c κs. search needs)
+    (λ c. search needs)
+    (λ c. search needs)
+    single-requires
+    (λ c. search needs)
+    when-requires
+    (λ c. search needs)
+    (λ c. search needs)
+    target-requires
+    (λ c. search needs)
+    returns)

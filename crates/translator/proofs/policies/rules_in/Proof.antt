@@ -1,0 +1,70 @@
+use native.Mathlib.Omega.{arith}
+use borrow.Author.Needs.{needs}
+use Rattle.translator.proofs.Links.{piece-of, linked-at}
+use Rattle.translator.proofs.Turns.{Going, go-begin, go-room, go-again, go-skip, go-end, rulesTo, rules-stop, rules-turn, rules-skip, rules-grow}
+use Rattle.translator.proofs.Emit.{nothing, same-as, differs, behind, rules-none}
+use Rattle.translator.proofs.policies.rules_in.Statement.{statement}
+use Rattle.translator.proofs.policies.rules_in.Tie as tie
+
+abbrev Inv-loop : tie.InvT-loop
+Inv-loop book elders i stop out₀ end next₀ at₀ start₀ out next at start = Going book elders i stop next at (rulesTo book stop next) end out₀ out start
+
+abbrev μ-loop : tie.MeasureT-loop
+μ-loop book elders i stop out₀ end next₀ at₀ start₀ out next at start = next
+
+returns : tie.Need-returns Inv-loop μ-loop
+returns c = nothing (rules-none _ _ _ (omega (arith, c .if1 .taken)))
+
+loop-holds : tie.Need-loop-holds Inv-loop μ-loop
+loop-holds c = go-begin (rulesTo _ _) _ _ _ (rules-stop _ _) (omega (arith, c .before .if1 .left, c .before .before .before .before .pre .0)) (c .before .before .before .before .pre .5) (c .elder .ensures)
+
+byte-requires : tie.Need-byte-requires Inv-loop μ-loop
+byte-requires c κs = let p = (piece-of (c .before .loop .inv .row) (c .loop-test .taken)) in (search needs, omega (arith, p .upto, p .inside, c .before .before .before .before .before .before .pre .2))
+
+elder-requires-2 : tie.Need-elder-requires-2 Inv-loop μ-loop
+elder-requires-2 c κs = let p = (piece-of (c .before .before .before .loop .inv .row) (c .before .before .loop-test .taken)) in omega (arith, p .upto, p .inside, c .before .before .before .before .before .before .before .before .pre .1)
+
+loop-less : tie.Need-loop-less Inv-loop μ-loop
+loop-less c = (piece-of (c .before .before .before .before .loop .inv .row) (c .before .before .before .loop-test .taken)) .upto
+
+loop-again : tie.Need-loop-again Inv-loop μ-loop
+loop-again c = go-skip (rulesTo _ _) (c .before .before .before .before .loop .inv) _ (c .before .before .before .loop-test .taken) (rules-skip _ _ (piece-of (c .before .before .before .before .loop .inv .row) (c .before .before .before .loop-test .taken)) (differs 3 (c .before .before .byte .ensures .0) (c .before .if2 .taken))) (c .elder2 .ensures)
+
+rule-requires : tie.Need-rule-requires Inv-loop μ-loop
+rule-requires c κs = let p = (piece-of (c .before .before .before .before .loop .inv .row) (c .before .before .before .loop-test .taken)) in (p .upto, omega (arith, p .inside, c .before .before .before .before .before .before .before .before .before .pre .1), omega (arith, p .inside, c .before .before .before .before .before .before .before .before .before .pre .2), go-room (rulesTo _ _) (c .before .before .before .before .loop .inv) (rules-grow _ _) (c .before .before .before .loop-test .taken) (c .before .before .before .before .before .before .before .before .before .pre .3) (rules-turn _ _ (piece-of (c .before .before .before .before .loop .inv .row) (c .before .before .before .loop-test .taken)) _ (same-as (c .before .before .byte .ensures .0) (c .before .if2 .left)) (behind (c .before .before .before .before .loop .inv .done))), omega (arith, c .before .before .before .before .loop .inv .done .starts, c .before .before .before .before .before .before .before .before .before .pre .4), linked-at p)
+
+elder-requires-3 : tie.Need-elder-requires-3 Inv-loop μ-loop
+elder-requires-3 c κs = let p = (piece-of (c .before .before .before .before .before .before .before .loop .inv .row) (c .before .before .before .before .before .before .loop-test .taken)) in omega (arith, p .upto, p .inside, c .before .before .before .before .before .before .before .before .before .before .before .before .pre .1)
+
+loop-less-2 : tie.Need-loop-less-2 Inv-loop μ-loop
+loop-less-2 c = (piece-of (c .before .before .before .before .before .before .before .before .loop .inv .row) (c .before .before .before .before .before .before .before .loop-test .taken)) .upto
+
+loop-again-2 : tie.Need-loop-again-2 Inv-loop μ-loop
+loop-again-2 c = go-again (rulesTo _ _) (c .before .before .before .before .before .before .before .before .loop .inv) _ _ (c .before .before .before .before .before .before .before .loop-test .taken) (rules-turn _ _ (piece-of (c .before .before .before .before .before .before .before .before .loop .inv .row) (c .before .before .before .before .before .before .before .loop-test .taken)) _ (same-as (c .before .before .before .before .before .before .byte .ensures .0) (c .before .before .before .before .before .if2 .left)) (behind (c .before .before .before .before .before .before .before .before .loop .inv .done))) (c .before .before .before .rule .ensures) (c .elder3 .ensures)
+
+same-length : tie.Need-same-length Inv-loop μ-loop
+same-length c = c .before .loop .inv .long
+
+returns-2 : tie.Need-returns-2 Inv-loop μ-loop
+returns-2 c = go-end (rulesTo _ _) (c .before .loop .inv) (c .loop-test .left)
+
+pub rules-in-spec : {M : Type 1} → statement M
+rules-in-spec =
+    tie.close
+    (tie.spec
+    Inv-loop
+    μ-loop
+    returns
+    (λ c κs. search needs)
+    loop-holds
+    byte-requires
+    elder-requires-2
+    loop-less
+    loop-again
+    (λ c. search needs)
+    rule-requires
+    elder-requires-3
+    loop-less-2
+    loop-again-2
+    same-length
+    returns-2)

@@ -1,0 +1,53 @@
+use mathlib.Core.Path.{refl}
+use native.Mathlib.Omega.{arith}
+use borrow.Author.Needs.{needs}
+use Rattle.translator.proofs.Links.{piece-of}
+use Rattle.translator.proofs.Turns.{Going, go-begin, go-room, go-again, go-end, matchesTo, matches-stop, matches-turn, matches-grow}
+use Rattle.translator.proofs.Emit.{behind}
+use Rattle.translator.proofs.targets.matches.Statement.{statement}
+use Rattle.translator.proofs.targets.matches.Tie as tie
+
+abbrev Inv-loop : tie.InvT-loop
+Inv-loop book elders i stop c l n x out₀ end next₀ at₀ start₀ out next at start = Going book elders i stop next at (matchesTo book stop c l n x next) end out₀ out start
+
+abbrev μ-loop : tie.MeasureT-loop
+μ-loop book elders i stop c l n x out₀ end next₀ at₀ start₀ out next at start = next
+
+loop-holds : tie.Need-loop-holds Inv-loop μ-loop
+loop-holds c = go-begin (matchesTo _ _ _ _ _ _) _ _ _ (matches-stop _ _ _ _ _ _) (c .before .before .before .pre .0) (c .before .before .before .pre .6) (c .elder .ensures)
+
+match-entry-requires : tie.Need-match-entry-requires Inv-loop μ-loop
+match-entry-requires c κs = let p = (piece-of (c .before .before .loop .inv .row) (c .before .loop-test .taken)) in (omega (arith, p .upto, p .inside, c .before .before .before .before .before .before .pre .2), go-room (matchesTo _ _ _ _ _ _) (c .before .before .loop .inv) (matches-grow _ _ _ _ _ _) (c .before .loop-test .taken) (c .before .before .before .before .before .before .pre .3) (matches-turn _ _ _ _ _ _ p _ _ refl refl), search needs, search needs, search needs)
+
+elder-requires-2 : tie.Need-elder-requires-2 Inv-loop μ-loop
+elder-requires-2 c κs = let p = (piece-of (c .before .before .before .before .before .loop .inv .row) (c .before .before .before .before .loop-test .taken)) in omega (arith, p .upto, p .inside, c .before .before .before .before .before .before .before .before .before .pre .1)
+
+loop-less : tie.Need-loop-less Inv-loop μ-loop
+loop-less c = (piece-of (c .before .before .before .before .before .before .loop .inv .row) (c .before .before .before .before .before .loop-test .taken)) .upto
+
+loop-again : tie.Need-loop-again Inv-loop μ-loop
+loop-again c = go-again (matchesTo _ _ _ _ _ _) (c .before .before .before .before .before .before .loop .inv) _ _ (c .before .before .before .before .before .loop-test .taken) (matches-turn _ _ _ _ _ _ (piece-of (c .before .before .before .before .before .before .loop .inv .row) (c .before .before .before .before .before .loop-test .taken)) _ _ (behind (c .before .before .before .before .before .before .loop .inv .done)) refl) (c .before .before .before .match-entry .ensures) (c .elder2 .ensures)
+
+same-length : tie.Need-same-length Inv-loop μ-loop
+same-length c = c .before .loop .inv .long
+
+returns : tie.Need-returns Inv-loop μ-loop
+returns c = go-end (matchesTo _ _ _ _ _ _) (c .before .loop .inv) (c .loop-test .left)
+
+pub matches-spec : {M : Type 1} → statement M
+matches-spec =
+    tie.close
+    (tie.spec
+    Inv-loop
+    μ-loop
+    (λ c κs. search needs)
+    loop-holds
+    (λ c. search needs)
+    (λ c. search needs)
+    (λ c. search needs)
+    match-entry-requires
+    elder-requires-2
+    loop-less
+    loop-again
+    same-length
+    returns)
