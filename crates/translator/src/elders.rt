@@ -9,7 +9,7 @@ ghost use Rattle.translator.specs.Links.{Linked, Kept};
 // A place for each record that a book can have.
 pub type Elders = [u16; 1000];
 
-// A number of the table, wide; a record's number, narrow.
+// A number of the table as a record's number, and back.
 fn wide(x: u16) -> usize
     ensures { λ r. ⌜ r ≡ x ⌝ }
 {

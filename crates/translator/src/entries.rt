@@ -44,7 +44,7 @@ fn put(out: &mut [u64], at: usize, number: u64)
     }
 }
 
-// A number right before `end`; an entry that has only one, made of what it is and of a field.
+// A number right before `end`.
 pub fn prepend(out: &mut [u64], end: usize, number: u64) -> usize
     requires { ⌜ 0 < end ⌝ }
     ensures { λ r. ⌜ Wrote (number ∷ []) end (now (out .entry)) (now (out .exit)) r ⌝ }
@@ -54,6 +54,7 @@ pub fn prepend(out: &mut [u64], end: usize, number: u64) -> usize
     at
 }
 
+// An entry of one number, made of what it is and of a field.
 pub fn single(out: &mut [u64], end: usize, op: u64, field: usize) -> usize
     requires { ⌜ (0 < end) × (op < 16) × (field < 262144) ⌝ }
     ensures { λ r. ⌜ Wrote ((op + 16 * field) ∷ []) end (now (out .entry)) (now (out .exit)) r ⌝ }
@@ -61,7 +62,7 @@ pub fn single(out: &mut [u64], end: usize, op: u64, field: usize) -> usize
     prepend(out, end, op + 16 * field as u64)
 }
 
-// A function by its number.
+// The number of a function.
 fn function_code(f: Function) -> u64
     ensures { λ r. ⌜ (r ≡ functionCode f) × (r < 8) ⌝ }
 {
@@ -82,7 +83,7 @@ pub fn test_word(t: Test) -> u64
     function_code(f) + 8 * bit(t.must)
 }
 
-// An effect by its number.
+// The number of the effect that a choice names.
 pub fn effect_code(choice: usize) -> usize
     ensures { λ r. ⌜ (r ≡ effectCode (effectOf choice)) × (r < 2) ⌝ }
 {

@@ -125,7 +125,8 @@ fn applies(up: usize, n: usize, out: &mut [u64], end: usize) -> usize
     requires { ⌜ (length (codeApplies (isOnly (overPolicies (policiesBy up))) n) ≤ end) × (n ≤ 16384) ⌝ }
     ensures { λ r. ⌜ Emitted (codeApplies (isOnly (overPolicies (policiesBy up))) n) end (now (out .entry)) (now (out .exit)) r ⌝ }
 {
-    if algorithm_code(meaning::over_policies(up)) != 5 {
+    let only = algorithm_code(Algorithm::OnlyOne);
+    if algorithm_code(meaning::over_policies(up)) != only {
         return end;
     }
     single(out, end, APPLIES, n)

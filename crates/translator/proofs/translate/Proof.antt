@@ -52,7 +52,10 @@ add-if1 : tie.Need-add-if1
 add-if1 c = omega (arith, size-of c .most)
 
 returns : tie.Need-returns
-returns c = let l : length (c .before .before .before .before .before .before .before .before .args .out .now) < roomFor (c .before .before .before .judged2 .given .0 .0) = omega (arith, c .before .if1 .taken) in (is-short _ _ (sym (c .before .before .before .before .before .judge-book .ensures) ∙ c .before .before .before .judged2 .given .1) l (c .no-room .ensures), refl)
+returns c =
+    let at-judged2 = c .before .before .before in
+    let start = at-judged2 .before .before .before .before .before in
+    let l : length (start .args .out .now) < roomFor (at-judged2 .judged2 .given .0 .0) = omega (arith, c .before .if1 .taken) in (is-short _ _ (sym (at-judged2 .before .before .judge-book .ensures) ∙ at-judged2 .judged2 .given .1) l (c .no-room .ensures), refl)
 
 write-requires : tie.Need-write-requires
 write-requires c κs = let k = size-of (c .before .before) in (k .some, k .most, k .bytes, omega (arith, c .before .if1 .left))
@@ -61,7 +64,11 @@ returns-2 : tie.Need-returns-2
 returns-2 c = (is-refused _ _ (sym (c .before .before .before .judge-book .ensures) ∙ c .before .judged .given .1), refl)
 
 returns-3 : tie.Need-returns-3
-returns-3 c = let l : roomFor (c .before .before .before .before .before .before .judged2 .given .0 .0) ≤ length (c .before .before .before .before .before .before .before .before .before .before .before .args .out .now) = omega (arith, c .before .before .before .before .if1 .left) in is-written _ (sym (c .before .before .before .before .before .before .before .before .judge-book .ensures) ∙ c .before .before .before .before .before .before .judged2 .given .1) l (c .before .before .write .ensures .0) (c .before .before .write .ensures .1) (c .before .before .write .ensures .2)
+returns-3 c =
+    let at-if1 = c .before .before .before .before in
+    let at-judge-book = at-if1 .before .before .before .before in
+    let start = at-judge-book .before .before .before in
+    let l : roomFor (at-if1 .before .before .judged2 .given .0 .0) ≤ length (start .args .out .now) = omega (arith, at-if1 .if1 .left) in is-written _ (sym (at-judge-book .judge-book .ensures) ∙ at-if1 .before .before .judged2 .given .1) l (c .before .before .write .ensures .0) (c .before .before .write .ensures .1) (c .before .before .write .ensures .2)
 
 pub translate-spec : {M : Type 1} → statement M
 translate-spec =

@@ -5,13 +5,22 @@ use Rattle.translator.proofs.write.Statement.{statement}
 use Rattle.translator.proofs.write.Tie as tie
 
 count-requires : tie.Need-count-requires
-count-requires c κs = (c .before .before .before .before .before .before .before .before .pre .0, c .before .before .before .before .before .before .before .before .pre .1, c .before .before .before .before .before .before .before .before .pre .2, c .before .before .before .before .link .ensures .0, omega (arith, c .before .before .due .ensures .1, c .before .before .before .before .before .before .before .before .pre .1), due-by _ _ _ (c .before .before .before .byte .ensures .0) (c .before .before .due .ensures .0), due-by _ _ _ (c .before .before .before .byte .ensures .0) (c .before .due2 .ensures .0))
+count-requires c κs =
+    let at-byte = c .before .before .before in
+    let start = at-byte .before .before .before .before .before in
+    (start .pre .0, start .pre .1, start .pre .2, at-byte .before .link .ensures .0, omega (arith, c .before .before .due .ensures .1, start .pre .1), due-by _ _ _ (at-byte .byte .ensures .0) (c .before .before .due .ensures .0), due-by _ _ _ (at-byte .byte .ensures .0) (c .before .due2 .ensures .0))
 
 programme-requires : tie.Need-programme-requires
-programme-requires c κs = let e = c .before .before .count .ensures in (c .before .before .before .before .before .before .before .before .before .before .before .pre .0, c .before .before .before .before .before .before .before .before .before .before .before .pre .1, c .before .before .before .before .before .before .before .before .before .before .before .pre .2, omega (arith, e), omega (arith, e, c .before .before .before .before .before .before .before .before .before .before .before .pre .1), c .before .before .before .before .before .before .before .link .ensures .0, omega (arith, c .before .before .before .before .before .due .ensures .1, c .before .before .before .before .before .before .before .before .before .before .before .pre .1), due-by _ _ _ (c .before .before .before .before .before .before .byte .ensures .0) (c .before .before .before .before .before .due .ensures .0), due-by _ _ _ (c .before .before .before .before .before .before .byte .ensures .0) (c .before .before .before .before .due2 .ensures .0))
+programme-requires c κs =
+    let at-due2 = c .before .before .before .before in
+    let at-link = at-due2 .before .before .before in
+    let start = at-link .before .before .before .before in
+    let e = c .before .before .count .ensures in (start .pre .0, start .pre .1, start .pre .2, omega (arith, e), omega (arith, e, start .pre .1), at-link .link .ensures .0, omega (arith, at-due2 .before .due .ensures .1, start .pre .1), due-by _ _ _ (at-due2 .before .before .byte .ensures .0) (at-due2 .before .due .ensures .0), due-by _ _ _ (at-due2 .before .before .byte .ensures .0) (at-due2 .due2 .ensures .0))
 
 returns : tie.Need-returns
-returns c = (c .before .before .before .before .before .count .ensures .0, c .before .before .before .before .before .count .ensures .1, from-first (c .before .before .before .before .before .count .ensures .0) (c .before .before .programme .ensures))
+returns c =
+    let at-count = c .before .before .before .before .before in
+    (at-count .count .ensures .0, at-count .count .ensures .1, from-first (at-count .count .ensures .0) (c .before .before .programme .ensures))
 
 pub write-spec : {M : Type 1} → statement M
 write-spec =

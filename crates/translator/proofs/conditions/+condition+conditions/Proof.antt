@@ -49,46 +49,96 @@ abbrev conditions-calls : ℕ → conditions-lts.Claims
 conditions-calls t = (elder-reads.Asked, elder-reads.Learnt, condition-below t, condition.Post)
 
 condition-comparison-requires : (t : ℕ) → condition-lts.Need-comparison-requires (condition-calls t) (condition-at t) condition.Post
-condition-comparison-requires t c κs = (search needs, fits-as _ (condition-zero _ _ _ _ (same-as (c .before .before .byte .ensures .0) (c .before .if1 .taken))) (c .before .before .before .before .before .pre .1 .3), search needs)
+condition-comparison-requires t c κs =
+    let start = c .before .before .before .before .before in
+    (search needs, fits-as _ (condition-zero _ _ _ _ (same-as (c .before .before .byte .ensures .0) (c .before .if1 .taken))) (start .pre .1 .3), search needs)
 
 condition-returns : (t : ℕ) → condition-lts.Need-returns (condition-calls t) (condition-at t) condition.Post
-condition-returns t c = as-is (condition-zero _ _ _ _ (same-as (c .before .before .before .before .before .byte .ensures .0) (c .before .before .before .before .if1 .taken))) (c .before .before .comparison .ensures)
+condition-returns t c =
+    let at-if1 = c .before .before .before .before in
+    as-is (condition-zero _ _ _ _ (same-as (at-if1 .before .byte .ensures .0) (at-if1 .if1 .taken))) (c .before .before .comparison .ensures)
 
 condition-comparison-requires-2 : (t : ℕ) → condition-lts.Need-comparison-requires-2 (condition-calls t) (condition-at t) condition.Post
-condition-comparison-requires-2 t c κs = (search needs, fits-as _ (condition-high _ _ _ _ (above 3 (c .before .before .before .byte .ensures .0) (c .before .if2 .taken))) (c .before .before .before .before .before .before .pre .1 .3), search needs)
+condition-comparison-requires-2 t c κs =
+    let start = c .before .before .before .before .before .before in
+    (search needs, fits-as _ (condition-high _ _ _ _ (above 3 (c .before .before .before .byte .ensures .0) (c .before .if2 .taken))) (start .pre .1 .3), search needs)
 
 condition-returns-2 : (t : ℕ) → condition-lts.Need-returns-2 (condition-calls t) (condition-at t) condition.Post
-condition-returns-2 t c = as-is (condition-high _ _ _ _ (above 3 (c .before .before .before .before .before .before .byte .ensures .0) (c .before .before .before .before .if2 .taken))) (c .before .before .comparison2 .ensures)
+condition-returns-2 t c =
+    let at-if2 = c .before .before .before .before in
+    as-is (condition-high _ _ _ _ (above 3 (at-if2 .before .before .byte .ensures .0) (at-if2 .if2 .taken))) (c .before .before .comparison2 .ensures)
 
 condition-comparison-requires-3 : (t : ℕ) → condition-lts.Need-comparison-requires-3 (condition-calls t) (condition-at t) condition.Post
-condition-comparison-requires-3 t c κs = (search needs, fits-as _ (cond-bare _ _ _ _ (c .before .before .before .before .before .before .before .before .pre .1 .0) (same-as (c .before .before .before .before .before .byte .ensures .0) (c .before .before .if3 .taken)) (c .before .if4 .taken)) (c .before .before .before .before .before .before .before .before .pre .1 .3), search needs)
+condition-comparison-requires-3 t c κs =
+    let at-byte = c .before .before .before .before .before in
+    let start = at-byte .before .before .before in
+    (search needs, fits-as _ (cond-bare _ _ _ _ (start .pre .1 .0) (same-as (at-byte .byte .ensures .0) (c .before .before .if3 .taken)) (c .before .if4 .taken)) (start .pre .1 .3), search needs)
 
 condition-returns-3 : (t : ℕ) → condition-lts.Need-returns-3 (condition-calls t) (condition-at t) condition.Post
-condition-returns-3 t c = as-is (cond-bare _ _ _ _ (c .before .before .before .before .before .before .before .before .before .before .before .pre .1 .0) (same-as (c .before .before .before .before .before .before .before .before .byte .ensures .0) (c .before .before .before .before .before .if3 .taken)) (c .before .before .before .before .if4 .taken)) (c .before .before .comparison3 .ensures)
+condition-returns-3 t c =
+    let at-if4 = c .before .before .before .before in
+    let at-byte = at-if4 .before .before .before .before in
+    let start = at-byte .before .before .before in
+    as-is (cond-bare _ _ _ _ (start .pre .1 .0) (same-as (at-byte .byte .ensures .0) (at-if4 .before .if3 .taken)) (at-if4 .if4 .taken)) (c .before .before .comparison3 .ensures)
 
 condition-single-requires : (t : ℕ) → condition-lts.Need-single-requires (condition-calls t) (condition-at t) condition.Post
-condition-single-requires t c κs = (third-fits (cond-not _ _ _ _ (c .before .before .before .before .before .before .before .before .before .pre .1 .0) _ (same-as (c .before .before .before .before .before .before .byte .ensures .0) (c .before .before .before .if3 .taken)) (c .before .before .if4 .left) (c .before .span-in .ensures .0)) _ (c .before .before .before .before .before .before .before .before .before .pre .1 .3), search needs, search needs)
+condition-single-requires t c κs =
+    let at-byte = c .before .before .before .before .before .before in
+    let start = at-byte .before .before .before in
+    (third-fits (cond-not _ _ _ _ (start .pre .1 .0) _ (same-as (at-byte .byte .ensures .0) (c .before .before .before .if3 .taken)) (c .before .before .if4 .left) (c .before .span-in .ensures .0)) _ (start .pre .1 .3), search needs, search needs)
 
 condition-condition-requires : (t : ℕ) → condition-lts.Need-condition-requires (condition-calls t) (condition-at t) condition.Post
-condition-condition-requires t c κs = (search needs, (search needs, search needs, search needs, second-fits (cond-not _ _ _ _ (c .before .before .before .before .before .before .before .before .before .before .before .before .before .pre .1 .0) _ (same-as (c .before .before .before .before .before .before .before .before .before .before .byte .ensures .0) (c .before .before .before .before .before .before .before .if3 .taken)) (c .before .before .before .before .before .before .if4 .left) (c .before .before .before .before .before .span-in .ensures .0)) (c .before .before .before .before .before .before .before .before .before .before .before .before .before .pre .1 .3) (closes _ (c .before .before .before .single .ensures)), search needs, first-linked _ _ _ _ _ (search needs) (c .before .before .before .before .before .span-in .ensures .0) (c .before .before .before .before .before .before .before .before .before .before .before .before .before .pre .1 .5)))
+condition-condition-requires t c κs =
+    let at-single = c .before .before .before in
+    let at-if4 = at-single .before .before .before in
+    let at-byte = at-if4 .before .before .before .before in
+    let start = at-byte .before .before .before in
+    (search needs, (search needs, search needs, search needs, second-fits (cond-not _ _ _ _ (start .pre .1 .0) _ (same-as (at-byte .byte .ensures .0) (at-if4 .before .if3 .taken)) (at-if4 .if4 .left) (at-single .before .before .span-in .ensures .0)) (start .pre .1 .3) (closes _ (at-single .single .ensures)), search needs, first-linked _ _ _ _ _ (search needs) (at-single .before .before .span-in .ensures .0) (start .pre .1 .5)))
 
 condition-single-requires-2 : (t : ℕ) → condition-lts.Need-single-requires-2 (condition-calls t) (condition-at t) condition.Post
-condition-single-requires-2 t c κs = (first-fits (cond-not _ _ _ _ (c .before .before .before .before .before .before .before .before .before .before .before .before .before .before .before .before .before .pre .1 .0) _ (same-as (c .before .before .before .before .before .before .before .before .before .before .before .before .before .before .byte .ensures .0) (c .before .before .before .before .before .before .before .before .before .before .before .if3 .taken)) (c .before .before .before .before .before .before .before .before .before .before .if4 .left) (c .before .before .before .before .before .before .before .before .before .span-in .ensures .0)) (c .before .before .before .before .before .before .before .before .before .before .before .before .before .before .before .before .before .pre .1 .3) (closes _ (c .before .before .before .before .before .before .before .single .ensures)) (c .before .before .before .condition .ensures), search needs, search needs)
+condition-single-requires-2 t c κs =
+    let at-single = c .before .before .before .before .before .before .before in
+    let at-if4 = at-single .before .before .before in
+    let at-byte = at-if4 .before .before .before .before in
+    let start = at-byte .before .before .before in
+    (first-fits (cond-not _ _ _ _ (start .pre .1 .0) _ (same-as (at-byte .byte .ensures .0) (at-if4 .before .if3 .taken)) (at-if4 .if4 .left) (at-single .before .before .span-in .ensures .0)) (start .pre .1 .3) (closes _ (at-single .single .ensures)) (c .before .before .before .condition .ensures), search needs, search needs)
 
 condition-returns-4 : (t : ℕ) → condition-lts.Need-returns-4 (condition-calls t) (condition-at t) condition.Post
-condition-returns-4 t c = three (cond-not _ _ _ _ (c .before .before .before .before .before .before .before .before .before .before .before .before .before .before .before .before .before .before .before .before .pre .1 .0) _ (same-as (c .before .before .before .before .before .before .before .before .before .before .before .before .before .before .before .before .before .byte .ensures .0) (c .before .before .before .before .before .before .before .before .before .before .before .before .before .before .if3 .taken)) (c .before .before .before .before .before .before .before .before .before .before .before .before .before .if4 .left) (c .before .before .before .before .before .before .before .before .before .before .before .before .span-in .ensures .0)) (closes _ (c .before .before .before .before .before .before .before .before .before .before .single .ensures)) (c .before .before .before .before .before .before .condition .ensures) (opened _ 2 refl (c .before .before .single2 .ensures))
+condition-returns-4 t c =
+    let at-condition = c .before .before .before .before .before .before in
+    let at-single = at-condition .before .before .before .before in
+    let at-if4 = at-single .before .before .before in
+    let at-byte = at-if4 .before .before .before .before in
+    let start = at-byte .before .before .before in
+    three (cond-not _ _ _ _ (start .pre .1 .0) _ (same-as (at-byte .byte .ensures .0) (at-if4 .before .if3 .taken)) (at-if4 .if4 .left) (at-single .before .before .span-in .ensures .0)) (closes _ (at-single .single .ensures)) (at-condition .condition .ensures) (opened _ 2 refl (c .before .before .single2 .ensures))
 
 condition-single-requires-3 : (t : ℕ) → condition-lts.Need-single-requires-3 (condition-calls t) (condition-at t) condition.Post
-condition-single-requires-3 t c κs = (third-fits (cond-parts _ _ _ _ (c .before .before .before .before .before .before .before .pre .1 .0) (differs 0 (c .before .before .before .before .byte .ensures .0) (c .before .before .before .if1 .left)) (no-more 3 (c .before .before .before .before .byte .ensures .0) (c .before .before .if2 .left)) (differs 3 (c .before .before .before .before .byte .ensures .0) (c .before .if3 .left))) _ (c .before .before .before .before .before .before .before .pre .1 .3), search needs, search needs)
+condition-single-requires-3 t c κs =
+    let at-if1 = c .before .before .before in
+    let start = at-if1 .before .before .before .before in
+    (third-fits (cond-parts _ _ _ _ (start .pre .1 .0) (differs 0 (at-if1 .before .byte .ensures .0) (at-if1 .if1 .left)) (no-more 3 (at-if1 .before .byte .ensures .0) (c .before .before .if2 .left)) (differs 3 (at-if1 .before .byte .ensures .0) (c .before .if3 .left))) _ (start .pre .1 .3), search needs, search needs)
 
 condition-conditions-requires : (t : ℕ) → condition-lts.Need-conditions-requires (condition-calls t) (condition-at t) condition.Post
-condition-conditions-requires t c κs = (search needs, (search needs, search needs, search needs, second-fits (cond-parts _ _ _ _ (c .before .before .before .before .before .before .before .before .before .before .before .pre .1 .0) (differs 0 (c .before .before .before .before .before .before .before .before .byte .ensures .0) (c .before .before .before .before .before .before .before .if1 .left)) (no-more 3 (c .before .before .before .before .before .before .before .before .byte .ensures .0) (c .before .before .before .before .before .before .if2 .left)) (differs 3 (c .before .before .before .before .before .before .before .before .byte .ensures .0) (c .before .before .before .before .before .if3 .left))) (c .before .before .before .before .before .before .before .before .before .before .before .pre .1 .3) (closes _ (c .before .before .before .single3 .ensures)), search needs, c .before .before .before .before .before .before .before .before .before .before .before .pre .1 .5))
+condition-conditions-requires t c κs =
+    let at-single3 = c .before .before .before in
+    let at-if2 = at-single3 .before .before .before in
+    let start = at-if2 .before .before .before .before .before in
+    (search needs, (search needs, search needs, search needs, second-fits (cond-parts _ _ _ _ (start .pre .1 .0) (differs 0 (at-if2 .before .before .byte .ensures .0) (at-if2 .before .if1 .left)) (no-more 3 (at-if2 .before .before .byte .ensures .0) (at-if2 .if2 .left)) (differs 3 (at-if2 .before .before .byte .ensures .0) (at-single3 .before .before .if3 .left))) (start .pre .1 .3) (closes _ (at-single3 .single3 .ensures)), search needs, start .pre .1 .5))
 
 condition-single-requires-4 : (t : ℕ) → condition-lts.Need-single-requires-4 (condition-calls t) (condition-at t) condition.Post
-condition-single-requires-4 t c κs = (first-fits (cond-parts _ _ _ _ (c .before .before .before .before .before .before .before .before .before .before .before .before .before .before .before .pre .1 .0) (differs 0 (c .before .before .before .before .before .before .before .before .before .before .before .before .byte .ensures .0) (c .before .before .before .before .before .before .before .before .before .before .before .if1 .left)) (no-more 3 (c .before .before .before .before .before .before .before .before .before .before .before .before .byte .ensures .0) (c .before .before .before .before .before .before .before .before .before .before .if2 .left)) (differs 3 (c .before .before .before .before .before .before .before .before .before .before .before .before .byte .ensures .0) (c .before .before .before .before .before .before .before .before .before .if3 .left))) (c .before .before .before .before .before .before .before .before .before .before .before .before .before .before .before .pre .1 .3) (closes _ (c .before .before .before .before .before .before .before .single3 .ensures)) (c .before .before .before .conditions .ensures), search needs, search needs)
+condition-single-requires-4 t c κs =
+    let at-single3 = c .before .before .before .before .before .before .before in
+    let at-if2 = at-single3 .before .before .before in
+    let start = at-if2 .before .before .before .before .before in
+    (first-fits (cond-parts _ _ _ _ (start .pre .1 .0) (differs 0 (at-if2 .before .before .byte .ensures .0) (at-if2 .before .if1 .left)) (no-more 3 (at-if2 .before .before .byte .ensures .0) (at-if2 .if2 .left)) (differs 3 (at-if2 .before .before .byte .ensures .0) (at-single3 .before .before .if3 .left))) (start .pre .1 .3) (closes _ (at-single3 .single3 .ensures)) (c .before .before .before .conditions .ensures), search needs, search needs)
 
 condition-returns-5 : (t : ℕ) → condition-lts.Need-returns-5 (condition-calls t) (condition-at t) condition.Post
-condition-returns-5 t c = three (cond-parts _ _ _ _ (c .before .before .before .before .before .before .before .before .before .before .before .before .before .before .before .before .before .before .pre .1 .0) (differs 0 (c .before .before .before .before .before .before .before .before .before .before .before .before .before .before .before .byte .ensures .0) (c .before .before .before .before .before .before .before .before .before .before .before .before .before .before .if1 .left)) (no-more 3 (c .before .before .before .before .before .before .before .before .before .before .before .before .before .before .before .byte .ensures .0) (c .before .before .before .before .before .before .before .before .before .before .before .before .before .if2 .left)) (differs 3 (c .before .before .before .before .before .before .before .before .before .before .before .before .before .before .before .byte .ensures .0) (c .before .before .before .before .before .before .before .before .before .before .before .before .if3 .left))) (closes _ (c .before .before .before .before .before .before .before .before .before .before .single3 .ensures)) (c .before .before .before .before .before .before .conditions .ensures) (opened _ _ (op-at (c .before .before .before .before .before .before .before .before .before .before .before .before .before .before .before .byte .ensures .0) (c .before .before .before .before .before .before .before .before .before .before .before .before .before .before .if1 .left) (c .before .before .before .before .before .before .before .before .before .before .before .before .before .if2 .left) (c .before .before .before .before .before .before .before .before .before .before .before .before .if3 .left)) (c .before .before .single4 .ensures))
+condition-returns-5 t c =
+    let at-conditions = c .before .before .before .before .before .before in
+    let at-single3 = at-conditions .before .before .before .before in
+    let at-if2 = at-single3 .before .before .before in
+    let start = at-if2 .before .before .before .before .before in
+    three (cond-parts _ _ _ _ (start .pre .1 .0) (differs 0 (at-if2 .before .before .byte .ensures .0) (at-if2 .before .if1 .left)) (no-more 3 (at-if2 .before .before .byte .ensures .0) (at-if2 .if2 .left)) (differs 3 (at-if2 .before .before .byte .ensures .0) (at-single3 .before .before .if3 .left))) (closes _ (at-single3 .single3 .ensures)) (at-conditions .conditions .ensures) (opened _ _ (op-at (at-if2 .before .before .byte .ensures .0) (at-if2 .before .if1 .left) (at-if2 .if2 .left) (at-single3 .before .before .if3 .left)) (c .before .before .single4 .ensures))
 
 abbrev conditions-Inv-loop : conditions-lts.InvT-loop
 conditions-Inv-loop book elders i stop out₀ end next₀ at₀ start₀ out next at start = Going book elders i stop next at (conditionsTo book stop next) end out₀ out start
@@ -100,19 +150,33 @@ conditions-returns : (t : ℕ) → conditions-lts.Need-returns (conditions-calls
 conditions-returns t c = nothing (conditions-none _ _ _ (omega (arith, c .if1 .taken)))
 
 conditions-loop-holds : (t : ℕ) → conditions-lts.Need-loop-holds (conditions-calls t) (conditions-at t) conditions.Post conditions-Inv-loop conditions-μ-loop
-conditions-loop-holds t c = go-begin (conditionsTo _ _) _ _ _ (conditions-stop _ _) (omega (arith, c .before .if1 .left, c .before .before .before .before .pre .1 .0)) (c .before .before .before .before .pre .1 .5) (c .elder .ensures)
+conditions-loop-holds t c =
+    let start = c .before .before .before .before in
+    go-begin (conditionsTo _ _) _ _ _ (conditions-stop _ _) (omega (arith, c .before .if1 .left, start .pre .1 .0)) (start .pre .1 .5) (c .elder .ensures)
 
 conditions-condition-requires : (t : ℕ) → conditions-lts.Need-condition-requires (conditions-calls t) (conditions-at t) conditions.Post conditions-Inv-loop conditions-μ-loop
-conditions-condition-requires t c κs = let p = piece-of (c .before .before .loop .inv .row) (c .before .loop-test .taken) in (omega (arith, p .from, p .upto, p .inside, c .before .before .before .before .before .before .before .pre .0, c .before .before .loop .inv .low), (p .upto, omega (arith, p .inside, c .before .before .before .before .before .before .before .pre .1 .1), omega (arith, p .inside, c .before .before .before .before .before .before .before .pre .1 .2), condition-room _ (c .before .before .loop .inv) (c .before .loop-test .taken) _ refl (c .before .before .before .before .before .before .before .pre .1 .3), omega (arith, c .before .before .loop .inv .done .starts, c .before .before .before .before .before .before .before .pre .1 .4), linked-at p))
+conditions-condition-requires t c κs =
+    let start = c .before .before .before .before .before .before .before in
+    let p = piece-of (c .before .before .loop .inv .row) (c .before .loop-test .taken) in
+    (omega (arith, p .from, p .upto, p .inside, start .pre .0, c .before .before .loop .inv .low), (p .upto, omega (arith, p .inside, start .pre .1 .1), omega (arith, p .inside, start .pre .1 .2), condition-room _ (c .before .before .loop .inv) (c .before .loop-test .taken) _ refl (start .pre .1 .3), omega (arith, c .before .before .loop .inv .done .starts, start .pre .1 .4), linked-at p))
 
 conditions-elder-requires-2 : (t : ℕ) → conditions-lts.Need-elder-requires-2 (conditions-calls t) (conditions-at t) conditions.Post conditions-Inv-loop conditions-μ-loop
-conditions-elder-requires-2 t c κs = let p = piece-of (c .before .before .before .before .before .loop .inv .row) (c .before .before .before .before .loop-test .taken) in omega (arith, p .upto, p .inside, c .before .before .before .before .before .before .before .before .before .before .pre .1 .1)
+conditions-elder-requires-2 t c κs =
+    let turn = c .before .before .before .before in
+    let start = turn .before .before .before .before .before .before in
+    let p = piece-of (turn .before .loop .inv .row) (turn .loop-test .taken) in
+    omega (arith, p .upto, p .inside, start .pre .1 .1)
 
 conditions-loop-less : (t : ℕ) → conditions-lts.Need-loop-less (conditions-calls t) (conditions-at t) conditions.Post conditions-Inv-loop conditions-μ-loop
-conditions-loop-less t c = piece-of (c .before .before .before .before .before .before .loop .inv .row) (c .before .before .before .before .before .loop-test .taken) .upto
+conditions-loop-less t c =
+    let turn = c .before .before .before .before .before in
+    piece-of (turn .before .loop .inv .row) (turn .loop-test .taken) .upto
 
 conditions-loop-again : (t : ℕ) → conditions-lts.Need-loop-again (conditions-calls t) (conditions-at t) conditions.Post conditions-Inv-loop conditions-μ-loop
-conditions-loop-again t c = go-again (conditionsTo _ _) (c .before .before .before .before .before .before .loop .inv) _ _ (c .before .before .before .before .before .loop-test .taken) (conditions-turn _ (piece-of (c .before .before .before .before .before .before .loop .inv .row) (c .before .before .before .before .before .loop-test .taken)) _ (behind (c .before .before .before .before .before .before .loop .inv .done))) (c .before .before .before .condition .ensures) (c .elder2 .ensures)
+conditions-loop-again t c =
+    let at-condition = c .before .before .before in
+    let turn = at-condition .before .before in
+    go-again (conditionsTo _ _) (turn .before .loop .inv) _ _ (turn .loop-test .taken) (conditions-turn _ (piece-of (turn .before .loop .inv .row) (turn .loop-test .taken)) _ (behind (turn .before .loop .inv .done))) (at-condition .condition .ensures) (c .elder2 .ensures)
 
 conditions-same-length : (t : ℕ) → conditions-lts.Need-same-length (conditions-calls t) (conditions-at t) conditions.Post conditions-Inv-loop conditions-μ-loop
 conditions-same-length t c = c .before .loop .inv .long

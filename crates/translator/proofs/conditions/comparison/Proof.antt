@@ -4,7 +4,9 @@ use Rattle.translator.proofs.conditions.comparison.Statement.{statement
 use Rattle.translator.proofs.conditions.comparison.Tie as tie
 
 returns : tie.Need-returns
-returns c = compared _ (c .before .before .before .before .before .before .before .before .before .comparison-at .ensures) (c .before .before .before .compare-word .ensures) (c .before .before .before .before .before .before .before .prepend .ensures) (c .before .before .prepend2 .ensures)
+returns c =
+    let at-prepend = c .before .before .before .before .before .before .before in
+    compared _ (at-prepend .before .before .comparison-at .ensures) (c .before .before .before .compare-word .ensures) (at-prepend .prepend .ensures) (c .before .before .prepend2 .ensures)
 
 pub comparison-spec : {M : Type 1} → statement M
 comparison-spec =

@@ -39,13 +39,24 @@ due-loop-holds : (t : ℕ) → due-lts.Need-loop-holds (due-calls t) (due-at t) 
 due-loop-holds t c = count-begin _ _ _ _ _ (c .before .pre .1 .0)
 
 due-loop-again : (t : ℕ) → due-lts.Need-loop-again (due-calls t) (due-at t) due.Post due-Inv-loop due-μ-loop
-due-loop-again t c = count-own (c .before .before .before .before .before .before .before .before .loop .inv) (c .before .before .before .before .before .before .before .loop-test .taken) (c .before .before .before .before .before .before .span-in .ensures .0) (same-as (c .before .before .before .before .before .byte .ensures .0) (c .before .before .before .before .if1 .taken)) (effect-at (c .before .before .before .byte2 .ensures .0) (c .before .before .effect-code .ensures .0)) (c .before .effect-code2 .ensures .0) (c .if2 .taken)
+due-loop-again t c =
+    let at-byte2 = c .before .before .before in
+    let at-span-in = at-byte2 .before .before .before in
+    let turn = at-span-in .before in
+    count-own (turn .before .loop .inv) (turn .loop-test .taken) (at-span-in .span-in .ensures .0) (same-as (at-byte2 .before .before .byte .ensures .0) (at-byte2 .before .if1 .taken)) (effect-at (at-byte2 .byte2 .ensures .0) (c .before .before .effect-code .ensures .0)) (c .before .effect-code2 .ensures .0) (c .if2 .taken)
 
 due-loop-again-2 : (t : ℕ) → due-lts.Need-loop-again-2 (due-calls t) (due-at t) due.Post due-Inv-loop due-μ-loop
-due-loop-again-2 t c = count-else (c .before .before .before .before .before .before .before .before .loop .inv) (c .before .before .before .before .before .before .before .loop-test .taken) (c .before .before .before .before .before .before .span-in .ensures .0) (same-as (c .before .before .before .before .before .byte .ensures .0) (c .before .before .before .before .if1 .taken)) (effect-at (c .before .before .before .byte2 .ensures .0) (c .before .before .effect-code .ensures .0)) (c .before .effect-code2 .ensures .0) (c .if2 .left)
+due-loop-again-2 t c =
+    let at-byte2 = c .before .before .before in
+    let at-span-in = at-byte2 .before .before .before in
+    let turn = at-span-in .before in
+    count-else (turn .before .loop .inv) (turn .loop-test .taken) (at-span-in .span-in .ensures .0) (same-as (at-byte2 .before .before .byte .ensures .0) (at-byte2 .before .if1 .taken)) (effect-at (at-byte2 .byte2 .ensures .0) (c .before .before .effect-code .ensures .0)) (c .before .effect-code2 .ensures .0) (c .if2 .left)
 
 due-loop-again-3 : (t : ℕ) → due-lts.Need-loop-again-3 (due-calls t) (due-at t) due.Post due-Inv-loop due-μ-loop
-due-loop-again-3 t c = count-flat (c .before .before .before .before .before .loop .inv) (c .before .before .before .before .loop-test .taken) (c .before .before .before .span-in .ensures .0) (differs 8 (c .before .before .byte .ensures .0) (c .before .if1 .left)) (not-true _ (c .if3 .taken))
+due-loop-again-3 t c =
+    let at-span-in = c .before .before .before in
+    let turn = at-span-in .before in
+    count-flat (turn .before .loop .inv) (turn .loop-test .taken) (at-span-in .span-in .ensures .0) (differs 8 (c .before .before .byte .ensures .0) (c .before .if1 .left)) (not-true _ (c .if3 .taken))
 
 due-loop-again-4 : (t : ℕ) → due-lts.Need-loop-again-4 (due-calls t) (due-at t) due.Post due-Inv-loop due-μ-loop
 due-loop-again-4 t c =

@@ -17,13 +17,22 @@ single-requires : tie.Need-single-requires Inv-loop μ-loop
 single-requires c κs = (ending-room (c .before .loop .inv) (c .before .before .before .pre), search needs, search needs)
 
 same-length : tie.Need-same-length Inv-loop μ-loop
-same-length c = emitted-long (ending-end (c .before .before .before .before .before .loop .inv) (finished (c .before .before .before .single .ensures)) (c .if1 .taken))
+same-length c =
+    let at-single = c .before .before .before in
+    let turn = at-single .before .before in
+    emitted-long (ending-end (turn .loop .inv) (finished (at-single .single .ensures)) (c .if1 .taken))
 
 returns : tie.Need-returns Inv-loop μ-loop
-returns c = ending-end (c .before .before .before .before .before .loop .inv) (finished (c .before .before .before .single .ensures)) (c .if1 .taken)
+returns c =
+    let at-single = c .before .before .before in
+    let turn = at-single .before .before in
+    ending-end (turn .loop .inv) (finished (at-single .single .ensures)) (c .if1 .taken)
 
 loop-again : tie.Need-loop-again Inv-loop μ-loop
-loop-again c = ending-more (c .before .before .before .before .before .loop .inv) (finished (c .before .before .before .single .ensures)) (c .if1 .left)
+loop-again c =
+    let at-single = c .before .before .before in
+    let turn = at-single .before .before in
+    ending-more (turn .loop .inv) (finished (at-single .single .ensures)) (c .if1 .left)
 
 pub ends-spec : {M : Type 1} → statement M
 ends-spec =

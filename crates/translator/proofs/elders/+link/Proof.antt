@@ -38,16 +38,30 @@ link-loop-holds : (t : ℕ) → link-lts.Need-loop-holds (link-calls t) (link-at
 link-loop-holds t c = linking-begin _ _ _ _ (omega (arith, c .if1 .left, c .before .before .pre .1 .0))
 
 link-link-requires : (t : ℕ) → link-lts.Need-link-requires (link-calls t) (link-at t) link.Post link-Inv-loop link-μ-loop
-link-link-requires t c κs = let f = first-le (c .before .before .before .before .before .loop .inv .row) in let n = next-le (c .before .before .before .before .before .loop .inv) (c .before .before .before .before .loop-test .taken) (c .before .before .before .span-in .ensures .0) in (omega (arith, f, n), (omega (arith, c .before .if2 .taken), omega (arith, n, c .before .before .before .before .before .before .before .before .pre .1 .1), omega (arith, n, c .before .before .before .before .before .before .before .before .pre .1 .2), omega (arith, n, c .before .before .before .before .before .before .before .before .pre .1 .3, c .before .before .before .before .before .loop .inv .kept .long, length-set (c .before .before .before .before .before .loop .elders) (c .before .before .before .before .before .loop .i) (c .before .before .narrow .result))))
+link-link-requires t c κs =
+    let at-span-in = c .before .before .before in
+    let turn = at-span-in .before in
+    let start = turn .before .before .before .before in
+    let f = first-le (turn .before .loop .inv .row) in let n = next-le (turn .before .loop .inv) (turn .loop-test .taken) (at-span-in .span-in .ensures .0) in (omega (arith, f, n), (omega (arith, c .before .if2 .taken), omega (arith, n, start .pre .1 .1), omega (arith, n, start .pre .1 .2), omega (arith, n, start .pre .1 .3, turn .before .loop .inv .kept .long, length-set (turn .before .loop .elders) (turn .before .loop .i) (c .before .before .narrow .result))))
 
 link-loop-again : (t : ℕ) → link-lts.Need-loop-again (link-calls t) (link-at t) link.Post link-Inv-loop link-μ-loop
-link-loop-again t c = linking-more (c .before .before .before .before .before .before .loop .inv) (c .before .before .before .before .before .loop-test .taken) (c .before .before .before .before .span-in .ensures .0) (c .before .before .before .narrow .ensures) (omega (arith, c .before .before .before .before .before .before .loop .inv .kept .long, c .before .before .before .before .before .loop-test .taken, c .before .before .before .before .before .before .before .before .before .pre .1 .3)) (c .link .ensures .0) (c .link .ensures .1)
+link-loop-again t c =
+    let at-narrow = c .before .before .before in
+    let turn = at-narrow .before .before in
+    let start = turn .before .before .before .before in
+    linking-more (turn .before .loop .inv) (turn .loop-test .taken) (at-narrow .before .span-in .ensures .0) (at-narrow .narrow .ensures) (omega (arith, turn .before .loop .inv .kept .long, turn .loop-test .taken, start .pre .1 .3)) (c .link .ensures .0) (c .link .ensures .1)
 
 link-loop-again-2 : (t : ℕ) → link-lts.Need-loop-again-2 (link-calls t) (link-at t) link.Post link-Inv-loop link-μ-loop
-link-loop-again-2 t c = linking-one (c .before .before .before .before .loop .inv) (c .before .before .before .loop-test .taken) (c .before .before .span-in .ensures .0) (c .before .narrow .ensures) (omega (arith, c .before .before .before .before .loop .inv .kept .long, c .before .before .before .loop-test .taken, c .before .before .before .before .before .before .before .pre .1 .3)) (search needs)
+link-loop-again-2 t c =
+    let turn = c .before .before .before in
+    let start = turn .before .before .before .before in
+    linking-one (turn .before .loop .inv) (turn .loop-test .taken) (c .before .before .span-in .ensures .0) (c .before .narrow .ensures) (omega (arith, turn .before .loop .inv .kept .long, turn .loop-test .taken, start .pre .1 .3)) (search needs)
 
 link-returns-2 : (t : ℕ) → link-lts.Need-returns-2 (link-calls t) (link-at t) link.Post link-Inv-loop link-μ-loop
-link-returns-2 t c = linking-end (c .before .before .loop .inv) (c .before .loop-test .left) (omega (arith, c .before .before .before .if1 .left, c .before .before .before .before .before .pre .1 .0)) (omega (arith, c .before .before .loop .inv .kept .long, c .before .before .before .before .before .pre .1 .3)) (c .narrow2 .ensures)
+link-returns-2 t c =
+    let at-if1 = c .before .before .before in
+    let start = at-if1 .before .before in
+    linking-end (c .before .before .loop .inv) (c .before .loop-test .left) (omega (arith, at-if1 .if1 .left, start .pre .1 .0)) (omega (arith, c .before .before .loop .inv .kept .long, start .pre .1 .3)) (c .narrow2 .ensures)
 
 pub +link-spec : {M : Type 1} → statement M
 +link-spec = close μ-link λ t. link-lts.spec (link-calls t)

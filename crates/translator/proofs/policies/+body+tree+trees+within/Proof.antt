@@ -83,10 +83,14 @@ abbrev within-calls : ℕ → within-lts.Claims
 within-calls t = (body-below t, body.Post, beyond-reads.Asked, beyond-reads.Learnt, applies-reads.Asked, applies-reads.Learnt, target-reads.Asked, target-reads.Learnt)
 
 body-obligations-requires : (t : ℕ) → body-lts.Need-obligations-requires (body-calls t) (body-at t) body.Post
-body-obligations-requires t c κs = (search needs, search needs, search needs, third-fits (body-to _ _ _ _ refl) _ (c .before .before .before .pre .1 .3), c .before .before .before .pre .1 .5)
+body-obligations-requires t c κs =
+    let start = c .before .before .before in
+    (search needs, search needs, search needs, third-fits (body-to _ _ _ _ refl) _ (start .pre .1 .3), start .pre .1 .5)
 
 body-single-requires : (t : ℕ) → body-lts.Need-single-requires (body-calls t) (body-at t) body.Post
-body-single-requires t c κs = (second-fits (body-to _ _ _ _ refl) (c .before .before .before .before .before .before .before .pre .1 .3) (c .before .before .before .obligations .ensures), search needs, search needs)
+body-single-requires t c κs =
+    let start = c .before .before .before .before .before .before .before in
+    (second-fits (body-to _ _ _ _ refl) (start .pre .1 .3) (c .before .before .before .obligations .ensures), search needs, search needs)
 
 body-trees-requires : (t : ℕ) → body-lts.Need-trees-requires (body-calls t) (body-at t) body.Post
 body-trees-requires t c κs = (search needs, (search needs, search needs, search needs, first-fits (set-to _ _ _ _ _ (same-as (c .before .before .before .byte .ensures .0) (c .before .before .if1 .taken)) (c .before .byte2 .ensures .0) (behind (c .before .before .before .before .before .before .before .before .before .before .obligations .ensures))) (c .before .before .before .before .before .before .before .before .before .before .before .before .before .before .pre .1 .3) (c .before .before .before .before .before .before .before .before .before .before .obligations .ensures) (concluded _ (c .before .before .before .before .before .before .single .ensures)), search needs, c .before .before .before .before .before .before .before .before .before .before .before .before .before .before .pre .1 .5))
@@ -104,13 +108,23 @@ tree-single-requires : (t : ℕ) → tree-lts.Need-single-requires (tree-calls t
 tree-single-requires t c κs = (third-fits (tree-parts _ _ _ _ _) _ (c .before .before .before .pre .1 .3), search needs, search needs)
 
 tree-within-requires : (t : ℕ) → tree-lts.Need-within-requires (tree-calls t) (tree-at t) tree.Post
-tree-within-requires t c κs = (search needs, (search needs, search needs, search needs, second-fits (tree-parts _ _ _ _ _) (c .before .before .before .before .before .before .before .pre .1 .3) (left-by _ (c .before .before .before .single .ensures)), search needs, c .before .before .before .before .before .before .before .pre .1 .5))
+tree-within-requires t c κs =
+    let start = c .before .before .before .before .before .before .before in
+    (search needs, (search needs, search needs, search needs, second-fits (tree-parts _ _ _ _ _) (start .pre .1 .3) (left-by _ (c .before .before .before .single .ensures)), search needs, start .pre .1 .5))
 
 tree-single-requires-2 : (t : ℕ) → tree-lts.Need-single-requires-2 (tree-calls t) (tree-at t) tree.Post
-tree-single-requires-2 t c κs = (first-fits (tree-parts _ _ _ _ _) (c .before .before .before .before .before .before .before .before .before .before .before .before .before .pre .1 .3) (left-by _ (c .before .before .before .before .before .before .before .before .before .single .ensures)) (c .before .before .before .before .before .within .ensures), search needs, search needs)
+tree-single-requires-2 t c κs =
+    let at-within = c .before .before .before .before .before in
+    let at-single = at-within .before .before .before .before in
+    let start = at-single .before .before .before .before in
+    (first-fits (tree-parts _ _ _ _ _) (start .pre .1 .3) (left-by _ (at-single .single .ensures)) (at-within .within .ensures), search needs, search needs)
 
 tree-returns : (t : ℕ) → tree-lts.Need-returns (tree-calls t) (tree-at t) tree.Post
-tree-returns t c = three (tree-parts _ _ _ _ _) (left-by _ (c .before .before .before .before .before .before .before .before .before .before .before .before .single .ensures)) (c .before .before .before .before .before .before .before .before .within .ensures) (entered _ (code-of (c .before .before .before .before .algorithm-code .ensures .0) (c .before .before .before .before .before .algorithm-at .ensures)) (c .before .before .single2 .ensures))
+tree-returns t c =
+    let at-algorithm-code = c .before .before .before .before in
+    let at-within = at-algorithm-code .before .before .before .before in
+    let at-single = at-within .before .before .before .before in
+    three (tree-parts _ _ _ _ _) (left-by _ (at-single .single .ensures)) (at-within .within .ensures) (entered _ (code-of (at-algorithm-code .algorithm-code .ensures .0) (at-algorithm-code .before .algorithm-at .ensures)) (c .before .before .single2 .ensures))
 
 abbrev trees-Inv-loop : trees-lts.InvT-loop
 trees-Inv-loop book elders i stop up out₀ end next₀ at₀ start₀ out next at start = Going book elders i stop next at (treesTo book stop up next) end out₀ out start
@@ -122,31 +136,58 @@ trees-returns : (t : ℕ) → trees-lts.Need-returns (trees-calls t) (trees-at t
 trees-returns t c = nothing (trees-none _ _ _ _ (omega (arith, c .if1 .taken)))
 
 trees-loop-holds : (t : ℕ) → trees-lts.Need-loop-holds (trees-calls t) (trees-at t) trees.Post trees-Inv-loop trees-μ-loop
-trees-loop-holds t c = go-begin (treesTo _ _ _) _ _ _ (trees-stop _ _ _) (omega (arith, c .before .if1 .left, c .before .before .before .before .pre .1 .0)) (c .before .before .before .before .pre .1 .5) (c .elder .ensures)
+trees-loop-holds t c =
+    let start = c .before .before .before .before in
+    go-begin (treesTo _ _ _) _ _ _ (trees-stop _ _ _) (omega (arith, c .before .if1 .left, start .pre .1 .0)) (start .pre .1 .5) (c .elder .ensures)
 
 trees-is-party-requires : (t : ℕ) → trees-lts.Need-is-party-requires (trees-calls t) (trees-at t) trees.Post trees-Inv-loop trees-μ-loop
-trees-is-party-requires t c κs = let p = (piece-of (c .before .loop .inv .row) (c .loop-test .taken)) in omega (arith, p .upto, p .inside, c .before .before .before .before .before .before .pre .1 .2)
+trees-is-party-requires t c κs =
+    let start = c .before .before .before .before .before .before in
+    let p = piece-of (c .before .loop .inv .row) (c .loop-test .taken) in
+    omega (arith, p .upto, p .inside, start .pre .1 .2)
 
 trees-elder-requires-2 : (t : ℕ) → trees-lts.Need-elder-requires-2 (trees-calls t) (trees-at t) trees.Post trees-Inv-loop trees-μ-loop
-trees-elder-requires-2 t c κs = let p = (piece-of (c .before .before .before .loop .inv .row) (c .before .before .loop-test .taken)) in omega (arith, p .upto, p .inside, c .before .before .before .before .before .before .before .before .pre .1 .1)
+trees-elder-requires-2 t c κs =
+    let turn = c .before .before in
+    let start = turn .before .before .before .before .before .before in
+    let p = piece-of (turn .before .loop .inv .row) (turn .loop-test .taken) in
+    omega (arith, p .upto, p .inside, start .pre .1 .1)
 
 trees-loop-less : (t : ℕ) → trees-lts.Need-loop-less (trees-calls t) (trees-at t) trees.Post trees-Inv-loop trees-μ-loop
-trees-loop-less t c = (piece-of (c .before .before .before .before .loop .inv .row) (c .before .before .before .loop-test .taken)) .upto
+trees-loop-less t c =
+    let turn = c .before .before .before in
+    (piece-of (turn .before .loop .inv .row) (turn .loop-test .taken)) .upto
 
 trees-loop-again : (t : ℕ) → trees-lts.Need-loop-again (trees-calls t) (trees-at t) trees.Post trees-Inv-loop trees-μ-loop
-trees-loop-again t c = go-skip (treesTo _ _ _) (c .before .before .before .before .loop .inv) _ (c .before .before .before .loop-test .taken) (trees-skip _ _ _ (piece-of (c .before .before .before .before .loop .inv .row) (c .before .before .before .loop-test .taken)) (sym (c .before .before .is-party .ensures) ∙ not-true _ (c .before .if2 .taken))) (c .elder2 .ensures)
+trees-loop-again t c =
+    let turn = c .before .before .before in
+    go-skip (treesTo _ _ _) (turn .before .loop .inv) _ (turn .loop-test .taken) (trees-skip _ _ _ (piece-of (turn .before .loop .inv .row) (turn .loop-test .taken)) (sym (c .before .before .is-party .ensures) ∙ not-true _ (c .before .if2 .taken))) (c .elder2 .ensures)
 
 trees-elder-requires-3 : (t : ℕ) → trees-lts.Need-elder-requires-3 (trees-calls t) (trees-at t) trees.Post trees-Inv-loop trees-μ-loop
-trees-elder-requires-3 t c κs = let p = (piece-of (c .before .before .before .before .before .before .before .loop .inv .row) (c .before .before .before .before .before .before .loop-test .taken)) in omega (arith, p .upto, p .inside, c .before .before .before .before .before .before .before .before .before .before .before .before .pre .1 .1)
+trees-elder-requires-3 t c κs =
+    let turn = c .before .before .before .before .before .before in
+    let start = turn .before .before .before .before .before .before in
+    let p = piece-of (turn .before .loop .inv .row) (turn .loop-test .taken) in
+    omega (arith, p .upto, p .inside, start .pre .1 .1)
 
 trees-loop-less-2 : (t : ℕ) → trees-lts.Need-loop-less-2 (trees-calls t) (trees-at t) trees.Post trees-Inv-loop trees-μ-loop
-trees-loop-less-2 t c = (piece-of (c .before .before .before .before .before .before .before .before .loop .inv .row) (c .before .before .before .before .before .before .before .loop-test .taken)) .upto
+trees-loop-less-2 t c =
+    let turn = c .before .before .before .before .before .before .before in
+    (piece-of (turn .before .loop .inv .row) (turn .loop-test .taken)) .upto
 
 trees-loop-again-2 : (t : ℕ) → trees-lts.Need-loop-again-2 (trees-calls t) (trees-at t) trees.Post trees-Inv-loop trees-μ-loop
-trees-loop-again-2 t c = go-again (treesTo _ _ _) (c .before .before .before .before .before .before .before .before .loop .inv) _ _ (c .before .before .before .before .before .before .before .loop-test .taken) (trees-turn _ _ _ (piece-of (c .before .before .before .before .before .before .before .before .loop .inv .row) (c .before .before .before .before .before .before .before .loop-test .taken)) _ (sym (c .before .before .before .before .before .before .is-party .ensures) ∙ not-false _ (c .before .before .before .before .before .if2 .left)) (behind (c .before .before .before .before .before .before .before .before .loop .inv .done))) (c .before .before .before .tree .ensures) (c .elder3 .ensures)
+trees-loop-again-2 t c =
+    let at-tree = c .before .before .before in
+    let at-is-party = at-tree .before .before .before in
+    let turn = at-is-party .before in
+    go-again (treesTo _ _ _) (turn .before .loop .inv) _ _ (turn .loop-test .taken) (trees-turn _ _ _ (piece-of (turn .before .loop .inv .row) (turn .loop-test .taken)) _ (sym (at-is-party .is-party .ensures) ∙ not-false _ (at-tree .before .before .if2 .left)) (behind (turn .before .loop .inv .done))) (at-tree .tree .ensures) (c .elder3 .ensures)
 
 trees-tree-requires : (t : ℕ) → trees-lts.Need-tree-requires (trees-calls t) (trees-at t) trees.Post trees-Inv-loop trees-μ-loop
-trees-tree-requires t c κs = let p = (piece-of (c .before .before .before .before .loop .inv .row) (c .before .before .before .loop-test .taken)) in (omega (arith, p .from, p .upto, p .inside, c .before .before .before .before .before .before .before .before .before .pre .0), (p .upto, omega (arith, p .inside, c .before .before .before .before .before .before .before .before .before .pre .1 .1), omega (arith, p .inside, c .before .before .before .before .before .before .before .before .before .pre .1 .2), go-room (treesTo _ _ _) (c .before .before .before .before .loop .inv) (trees-grow _ _ _) (c .before .before .before .loop-test .taken) (c .before .before .before .before .before .before .before .before .before .pre .1 .3) (trees-turn _ _ _ p _ (sym (c .before .before .is-party .ensures) ∙ not-false _ (c .before .if2 .left)) (behind (c .before .before .before .before .loop .inv .done))), omega (arith, c .before .before .before .before .loop .inv .done .starts, c .before .before .before .before .before .before .before .before .before .pre .1 .4), linked-at p))
+trees-tree-requires t c κs =
+    let turn = c .before .before .before in
+    let start = turn .before .before .before .before .before .before in
+    let p = piece-of (turn .before .loop .inv .row) (turn .loop-test .taken) in
+    (omega (arith, p .from, p .upto, p .inside, start .pre .0), (p .upto, omega (arith, p .inside, start .pre .1 .1), omega (arith, p .inside, start .pre .1 .2), go-room (treesTo _ _ _) (turn .before .loop .inv) (trees-grow _ _ _) (turn .loop-test .taken) (start .pre .1 .3) (trees-turn _ _ _ p _ (sym (c .before .before .is-party .ensures) ∙ not-false _ (c .before .if2 .left)) (behind (turn .before .loop .inv .done))), omega (arith, turn .before .loop .inv .done .starts, start .pre .1 .4), linked-at p))
 
 trees-same-length : (t : ℕ) → trees-lts.Need-same-length (trees-calls t) (trees-at t) trees.Post trees-Inv-loop trees-μ-loop
 trees-same-length t c = c .before .loop .inv .long
@@ -155,10 +196,15 @@ trees-returns-2 : (t : ℕ) → trees-lts.Need-returns-2 (trees-calls t) (trees-
 trees-returns-2 t c = go-end (treesTo _ _ _) (c .before .loop .inv) (c .loop-test .left)
 
 within-body-requires : (t : ℕ) → within-lts.Need-body-requires (within-calls t) (within-at t) within.Post
-within-body-requires t c κs = (search needs, (search needs, search needs, search needs, third-fits (within-to _ _ _ _ _ _ _ refl refl) _ (c .before .before .before .pre .1 .3), search needs, c .before .before .before .pre .1 .5))
+within-body-requires t c κs =
+    let start = c .before .before .before in
+    (search needs, (search needs, search needs, search needs, third-fits (within-to _ _ _ _ _ _ _ refl refl) _ (start .pre .1 .3), search needs, start .pre .1 .5))
 
 within-applies-requires : (t : ℕ) → within-lts.Need-applies-requires (within-calls t) (within-at t) within.Post
-within-applies-requires t c κs = (second-fits (within-to _ _ _ _ _ _ _ (past-body _ (c .before .before .before .before .body .ensures) (c .before .beyond .ensures)) refl) (c .before .before .before .before .before .before .before .before .pre .1 .3) (c .before .before .before .before .body .ensures), search needs)
+within-applies-requires t c κs =
+    let at-body = c .before .before .before .before in
+    let start = at-body .before .before .before .before in
+    (second-fits (within-to _ _ _ _ _ _ _ (past-body _ (at-body .body .ensures) (c .before .beyond .ensures)) refl) (start .pre .1 .3) (at-body .body .ensures), search needs)
 
 within-target-requires : (t : ℕ) → within-lts.Need-target-requires (within-calls t) (within-at t) within.Post
 within-target-requires t c κs = (search needs, search needs, search needs, first-fits (within-to _ _ _ _ _ _ _ (past-body _ (c .before .before .before .before .before .before .before .before .body .ensures) (c .before .before .before .before .before .beyond .ensures)) (past-both (c .before .before .before .before .before .before .before .before .body .ensures) (c .before .before .before .applies .ensures))) (c .before .before .before .before .before .before .before .before .before .before .before .before .pre .1 .3) (c .before .before .before .before .before .before .before .before .body .ensures) (c .before .before .before .applies .ensures), search needs, linked-below _ _ _ _ (c .before .before .before .before .before .before .before .before .before .before .before .before .pre .1 .5))

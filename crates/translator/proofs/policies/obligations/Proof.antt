@@ -16,43 +16,87 @@ returns : tie.Need-returns Inv-loop μ-loop
 returns c = nothing (obligations-none _ _ _ (omega (arith, c .if1 .taken)))
 
 loop-holds : tie.Need-loop-holds Inv-loop μ-loop
-loop-holds c = go-begin (obligationsTo _ _) _ _ _ (obligations-stop _ _) (omega (arith, c .before .if1 .left, c .before .before .before .before .pre .0)) (c .before .before .before .before .pre .4) (c .elder .ensures)
+loop-holds c =
+    let start = c .before .before .before .before in
+    go-begin (obligationsTo _ _) _ _ _ (obligations-stop _ _) (omega (arith, c .before .if1 .left, start .pre .0)) (start .pre .4) (c .elder .ensures)
 
 byte-requires : tie.Need-byte-requires Inv-loop μ-loop
-byte-requires c κs = let p = (piece-of (c .before .loop .inv .row) (c .loop-test .taken)) in (search needs, omega (arith, p .upto, p .inside, c .before .before .before .before .before .before .pre .2))
+byte-requires c κs =
+    let start = c .before .before .before .before .before .before in
+    let p = piece-of (c .before .loop .inv .row) (c .loop-test .taken) in
+    (search needs, omega (arith, p .upto, p .inside, start .pre .2))
 
 elder-requires-2 : tie.Need-elder-requires-2 Inv-loop μ-loop
-elder-requires-2 c κs = let p = (piece-of (c .before .before .before .loop .inv .row) (c .before .before .loop-test .taken)) in omega (arith, p .upto, p .inside, c .before .before .before .before .before .before .before .before .pre .1)
+elder-requires-2 c κs =
+    let turn = c .before .before in
+    let start = turn .before .before .before .before .before .before in
+    let p = piece-of (turn .before .loop .inv .row) (turn .loop-test .taken) in
+    omega (arith, p .upto, p .inside, start .pre .1)
 
 loop-less : tie.Need-loop-less Inv-loop μ-loop
-loop-less c = (piece-of (c .before .before .before .before .loop .inv .row) (c .before .before .before .loop-test .taken)) .upto
+loop-less c =
+    let turn = c .before .before .before in
+    (piece-of (turn .before .loop .inv .row) (turn .loop-test .taken)) .upto
 
 loop-again : tie.Need-loop-again Inv-loop μ-loop
-loop-again c = go-skip (obligationsTo _ _) (c .before .before .before .before .loop .inv) _ (c .before .before .before .loop-test .taken) (obligations-skip _ _ (piece-of (c .before .before .before .before .loop .inv .row) (c .before .before .before .loop-test .taken)) (differs 8 (c .before .before .byte .ensures .0) (c .before .if2 .taken))) (c .elder2 .ensures)
+loop-again c =
+    let turn = c .before .before .before in
+    go-skip (obligationsTo _ _) (turn .before .loop .inv) _ (turn .loop-test .taken) (obligations-skip _ _ (piece-of (turn .before .loop .inv .row) (turn .loop-test .taken)) (differs 8 (c .before .before .byte .ensures .0) (c .before .if2 .taken))) (c .elder2 .ensures)
 
 byte-requires-2 : tie.Need-byte-requires-2 Inv-loop μ-loop
-byte-requires-2 c κs = let p = (piece-of (c .before .before .before .loop .inv .row) (c .before .before .loop-test .taken)) in (search needs, omega (arith, p .upto, p .inside, c .before .before .before .before .before .before .before .before .pre .2))
+byte-requires-2 c κs =
+    let turn = c .before .before in
+    let start = turn .before .before .before .before .before .before in
+    let p = piece-of (turn .before .loop .inv .row) (turn .loop-test .taken) in
+    (search needs, omega (arith, p .upto, p .inside, start .pre .2))
 
 mul-big2 : tie.Need-mul-big2 Inv-loop μ-loop
-mul-big2 c = let p = (piece-of (c .before .before .before .before .before .loop .inv .row) (c .before .before .before .before .loop-test .taken)) in omega (arith, p .upto, p .inside, c .before .before .before .before .before .before .before .before .before .before .pre .1)
+mul-big2 c =
+    let turn = c .before .before .before .before in
+    let start = turn .before .before .before .before .before .before in
+    let p = piece-of (turn .before .loop .inv .row) (turn .loop-test .taken) in
+    omega (arith, p .upto, p .inside, start .pre .1)
 
 add-big2 : tie.Need-add-big2 Inv-loop μ-loop
-add-big2 c = let p = (piece-of (c .before .before .before .before .before .loop .inv .row) (c .before .before .before .before .loop-test .taken)) in omega (arith, p .upto, p .inside, c .before .before .before .before .before .before .before .before .before .before .pre .1)
+add-big2 c =
+    let turn = c .before .before .before .before in
+    let start = turn .before .before .before .before .before .before in
+    let p = piece-of (turn .before .loop .inv .row) (turn .loop-test .taken) in
+    omega (arith, p .upto, p .inside, start .pre .1)
 
 big2-requires : tie.Need-big2-requires Inv-loop μ-loop
-big2-requires c κs = let p = (piece-of (c .before .before .before .before .before .loop .inv .row) (c .before .before .before .before .loop-test .taken)) in omega (arith, p .upto, p .inside, c .before .before .before .before .before .before .before .before .before .before .pre .2)
+big2-requires c κs =
+    let turn = c .before .before .before .before in
+    let start = turn .before .before .before .before .before .before in
+    let p = piece-of (turn .before .loop .inv .row) (turn .loop-test .taken) in
+    omega (arith, p .upto, p .inside, start .pre .2)
 
 single-requires : tie.Need-single-requires Inv-loop μ-loop
-single-requires c κs = (go-room (obligationsTo _ _) (c .before .before .before .before .before .before .before .loop .inv) (obligations-grow _ _) (c .before .before .before .before .before .before .loop-test .taken) (c .before .before .before .before .before .before .before .before .before .before .before .before .pre .3) (obligations-turn _ _ (piece-of (c .before .before .before .before .before .before .before .loop .inv .row) (c .before .before .before .before .before .before .loop-test .taken)) (same-as (c .before .before .before .before .before .byte .ensures .0) (c .before .before .before .before .if2 .left))), search needs, search needs)
+single-requires c κs =
+    let at-if2 = c .before .before .before .before in
+    let turn = at-if2 .before .before in
+    let start = turn .before .before .before .before .before .before in
+    (go-room (obligationsTo _ _) (turn .before .loop .inv) (obligations-grow _ _) (turn .loop-test .taken) (start .pre .3) (obligations-turn _ _ (piece-of (turn .before .loop .inv .row) (turn .loop-test .taken)) (same-as (at-if2 .before .byte .ensures .0) (at-if2 .if2 .left))), search needs, search needs)
 
 elder-requires-3 : tie.Need-elder-requires-3 Inv-loop μ-loop
-elder-requires-3 c κs = let p = (piece-of (c .before .before .before .before .before .before .before .before .before .before .loop .inv .row) (c .before .before .before .before .before .before .before .before .before .loop-test .taken)) in omega (arith, p .upto, p .inside, c .before .before .before .before .before .before .before .before .before .before .before .before .before .before .before .pre .1)
+elder-requires-3 c κs =
+    let turn = c .before .before .before .before .before .before .before .before .before in
+    let start = turn .before .before .before .before .before .before in
+    let p = piece-of (turn .before .loop .inv .row) (turn .loop-test .taken) in
+    omega (arith, p .upto, p .inside, start .pre .1)
 
 loop-less-2 : tie.Need-loop-less-2 Inv-loop μ-loop
-loop-less-2 c = (piece-of (c .before .before .before .before .before .before .before .before .before .before .before .loop .inv .row) (c .before .before .before .before .before .before .before .before .before .before .loop-test .taken)) .upto
+loop-less-2 c =
+    let turn = c .before .before .before .before .before .before .before .before .before .before in
+    (piece-of (turn .before .loop .inv .row) (turn .loop-test .taken)) .upto
 
 loop-again-2 : tie.Need-loop-again-2 Inv-loop μ-loop
-loop-again-2 c = go-again (obligationsTo _ _) (c .before .before .before .before .before .before .before .before .before .before .before .loop .inv) _ _ (c .before .before .before .before .before .before .before .before .before .before .loop-test .taken) (obligations-turn _ _ (piece-of (c .before .before .before .before .before .before .before .before .before .before .before .loop .inv .row) (c .before .before .before .before .before .before .before .before .before .before .loop-test .taken)) (same-as (c .before .before .before .before .before .before .before .before .before .byte .ensures .0) (c .before .before .before .before .before .before .before .before .if2 .left))) (obliged _ _ (effect-at (c .before .before .before .before .before .before .before .byte2 .ensures .0) (c .before .before .before .before .before .before .effect-code .ensures .0)) (c .before .before .before .before .before .big2 .ensures) (c .before .before .before .single .ensures)) (c .elder3 .ensures)
+loop-again-2 c =
+    let at-single = c .before .before .before in
+    let at-effect-code = at-single .before .before .before in
+    let at-byte = at-effect-code .before .before .before in
+    let turn = at-byte .before in
+    go-again (obligationsTo _ _) (turn .before .loop .inv) _ _ (turn .loop-test .taken) (obligations-turn _ _ (piece-of (turn .before .loop .inv .row) (turn .loop-test .taken)) (same-as (at-byte .byte .ensures .0) (at-effect-code .before .before .if2 .left))) (obliged _ _ (effect-at (at-effect-code .before .byte2 .ensures .0) (at-effect-code .effect-code .ensures .0)) (at-single .before .before .big2 .ensures) (at-single .single .ensures)) (c .elder3 .ensures)
 
 same-length : tie.Need-same-length Inv-loop μ-loop
 same-length c = c .before .loop .inv .long

@@ -7,16 +7,31 @@ use Rattle.translator.proofs.policies.rule.Statement.{statement}
 use Rattle.translator.proofs.policies.rule.Tie as tie
 
 single-requires : tie.Need-single-requires
-single-requires c κs = (third-fits (rule-to _ _ _ _ _ refl) _ (c .before .before .before .before .before .pre .3), search needs, search needs)
+single-requires c κs =
+    let start = c .before .before .before .before .before in
+    (third-fits (rule-to _ _ _ _ _ refl) _ (start .pre .3), search needs, search needs)
 
 when-requires : tie.Need-when-requires
-when-requires c κs = (search needs, search needs, search needs, second-fits (rule-to _ _ _ _ _ refl) (c .before .before .before .before .before .before .before .before .before .pre .3) (ruled _ _ (effect-at (c .before .before .before .before .before .before .byte .ensures .0) (c .before .before .before .before .before .effect-code .ensures .0)) (c .before .before .before .single .ensures)), search needs, linked-below _ _ _ _ (c .before .before .before .before .before .before .before .before .before .pre .5))
+when-requires c κs =
+    let at-single = c .before .before .before in
+    let at-byte = at-single .before .before .before in
+    let start = at-byte .before .before .before in
+    (search needs, search needs, search needs, second-fits (rule-to _ _ _ _ _ refl) (start .pre .3) (ruled _ _ (effect-at (at-byte .byte .ensures .0) (at-single .before .before .effect-code .ensures .0)) (at-single .single .ensures)), search needs, linked-below _ _ _ _ (start .pre .5))
 
 target-requires : tie.Need-target-requires
-target-requires c κs = (search needs, search needs, search needs, first-fits (rule-to _ _ _ _ _ (behind (c .before .before .before .when .ensures))) (c .before .before .before .before .before .before .before .before .before .before .before .before .before .pre .3) (ruled _ _ (effect-at (c .before .before .before .before .before .before .before .before .before .before .byte .ensures .0) (c .before .before .before .before .before .before .before .before .before .effect-code .ensures .0)) (c .before .before .before .before .before .before .before .single .ensures)) (c .before .before .before .when .ensures), search needs, linked-below _ _ _ _ (c .before .before .before .before .before .before .before .before .before .before .before .before .before .pre .5))
+target-requires c κs =
+    let at-when = c .before .before .before in
+    let at-single = at-when .before .before .before .before in
+    let at-byte = at-single .before .before .before in
+    let start = at-byte .before .before .before in
+    (search needs, search needs, search needs, first-fits (rule-to _ _ _ _ _ (behind (at-when .when .ensures))) (start .pre .3) (ruled _ _ (effect-at (at-byte .byte .ensures .0) (at-single .before .before .effect-code .ensures .0)) (at-single .single .ensures)) (at-when .when .ensures), search needs, linked-below _ _ _ _ (start .pre .5))
 
 returns : tie.Need-returns
-returns c = three (rule-to _ _ _ _ _ (behind (c .before .before .before .before .before .before .when .ensures))) (ruled _ _ (effect-at (c .before .before .before .before .before .before .before .before .before .before .before .before .before .byte .ensures .0) (c .before .before .before .before .before .before .before .before .before .before .before .before .effect-code .ensures .0)) (c .before .before .before .before .before .before .before .before .before .before .single .ensures)) (c .before .before .before .before .before .before .when .ensures) (c .before .before .target .ensures)
+returns c =
+    let at-when = c .before .before .before .before .before .before in
+    let at-single = at-when .before .before .before .before in
+    let at-byte = at-single .before .before .before in
+    three (rule-to _ _ _ _ _ (behind (at-when .when .ensures))) (ruled _ _ (effect-at (at-byte .byte .ensures .0) (at-single .before .before .effect-code .ensures .0)) (at-single .single .ensures)) (at-when .when .ensures) (c .before .before .target .ensures)
 
 pub rule-spec : {M : Type 1} → statement M
 rule-spec =

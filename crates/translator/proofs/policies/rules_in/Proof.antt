@@ -16,31 +16,58 @@ returns : tie.Need-returns Inv-loop μ-loop
 returns c = nothing (rules-none _ _ _ (omega (arith, c .if1 .taken)))
 
 loop-holds : tie.Need-loop-holds Inv-loop μ-loop
-loop-holds c = go-begin (rulesTo _ _) _ _ _ (rules-stop _ _) (omega (arith, c .before .if1 .left, c .before .before .before .before .pre .0)) (c .before .before .before .before .pre .5) (c .elder .ensures)
+loop-holds c =
+    let start = c .before .before .before .before in
+    go-begin (rulesTo _ _) _ _ _ (rules-stop _ _) (omega (arith, c .before .if1 .left, start .pre .0)) (start .pre .5) (c .elder .ensures)
 
 byte-requires : tie.Need-byte-requires Inv-loop μ-loop
-byte-requires c κs = let p = (piece-of (c .before .loop .inv .row) (c .loop-test .taken)) in (search needs, omega (arith, p .upto, p .inside, c .before .before .before .before .before .before .pre .2))
+byte-requires c κs =
+    let start = c .before .before .before .before .before .before in
+    let p = piece-of (c .before .loop .inv .row) (c .loop-test .taken) in
+    (search needs, omega (arith, p .upto, p .inside, start .pre .2))
 
 elder-requires-2 : tie.Need-elder-requires-2 Inv-loop μ-loop
-elder-requires-2 c κs = let p = (piece-of (c .before .before .before .loop .inv .row) (c .before .before .loop-test .taken)) in omega (arith, p .upto, p .inside, c .before .before .before .before .before .before .before .before .pre .1)
+elder-requires-2 c κs =
+    let turn = c .before .before in
+    let start = turn .before .before .before .before .before .before in
+    let p = piece-of (turn .before .loop .inv .row) (turn .loop-test .taken) in
+    omega (arith, p .upto, p .inside, start .pre .1)
 
 loop-less : tie.Need-loop-less Inv-loop μ-loop
-loop-less c = (piece-of (c .before .before .before .before .loop .inv .row) (c .before .before .before .loop-test .taken)) .upto
+loop-less c =
+    let turn = c .before .before .before in
+    (piece-of (turn .before .loop .inv .row) (turn .loop-test .taken)) .upto
 
 loop-again : tie.Need-loop-again Inv-loop μ-loop
-loop-again c = go-skip (rulesTo _ _) (c .before .before .before .before .loop .inv) _ (c .before .before .before .loop-test .taken) (rules-skip _ _ (piece-of (c .before .before .before .before .loop .inv .row) (c .before .before .before .loop-test .taken)) (differs 3 (c .before .before .byte .ensures .0) (c .before .if2 .taken))) (c .elder2 .ensures)
+loop-again c =
+    let turn = c .before .before .before in
+    go-skip (rulesTo _ _) (turn .before .loop .inv) _ (turn .loop-test .taken) (rules-skip _ _ (piece-of (turn .before .loop .inv .row) (turn .loop-test .taken)) (differs 3 (c .before .before .byte .ensures .0) (c .before .if2 .taken))) (c .elder2 .ensures)
 
 rule-requires : tie.Need-rule-requires Inv-loop μ-loop
-rule-requires c κs = let p = (piece-of (c .before .before .before .before .loop .inv .row) (c .before .before .before .loop-test .taken)) in (p .upto, omega (arith, p .inside, c .before .before .before .before .before .before .before .before .before .pre .1), omega (arith, p .inside, c .before .before .before .before .before .before .before .before .before .pre .2), go-room (rulesTo _ _) (c .before .before .before .before .loop .inv) (rules-grow _ _) (c .before .before .before .loop-test .taken) (c .before .before .before .before .before .before .before .before .before .pre .3) (rules-turn _ _ (piece-of (c .before .before .before .before .loop .inv .row) (c .before .before .before .loop-test .taken)) _ (same-as (c .before .before .byte .ensures .0) (c .before .if2 .left)) (behind (c .before .before .before .before .loop .inv .done))), omega (arith, c .before .before .before .before .loop .inv .done .starts, c .before .before .before .before .before .before .before .before .before .pre .4), linked-at p)
+rule-requires c κs =
+    let turn = c .before .before .before in
+    let start = turn .before .before .before .before .before .before in
+    let p = piece-of (turn .before .loop .inv .row) (turn .loop-test .taken) in
+    (p .upto, omega (arith, p .inside, start .pre .1), omega (arith, p .inside, start .pre .2), go-room (rulesTo _ _) (turn .before .loop .inv) (rules-grow _ _) (turn .loop-test .taken) (start .pre .3) (rules-turn _ _ p _ (same-as (c .before .before .byte .ensures .0) (c .before .if2 .left)) (behind (turn .before .loop .inv .done))), omega (arith, turn .before .loop .inv .done .starts, start .pre .4), linked-at p)
 
 elder-requires-3 : tie.Need-elder-requires-3 Inv-loop μ-loop
-elder-requires-3 c κs = let p = (piece-of (c .before .before .before .before .before .before .before .loop .inv .row) (c .before .before .before .before .before .before .loop-test .taken)) in omega (arith, p .upto, p .inside, c .before .before .before .before .before .before .before .before .before .before .before .before .pre .1)
+elder-requires-3 c κs =
+    let turn = c .before .before .before .before .before .before in
+    let start = turn .before .before .before .before .before .before in
+    let p = piece-of (turn .before .loop .inv .row) (turn .loop-test .taken) in
+    omega (arith, p .upto, p .inside, start .pre .1)
 
 loop-less-2 : tie.Need-loop-less-2 Inv-loop μ-loop
-loop-less-2 c = (piece-of (c .before .before .before .before .before .before .before .before .loop .inv .row) (c .before .before .before .before .before .before .before .loop-test .taken)) .upto
+loop-less-2 c =
+    let turn = c .before .before .before .before .before .before .before in
+    (piece-of (turn .before .loop .inv .row) (turn .loop-test .taken)) .upto
 
 loop-again-2 : tie.Need-loop-again-2 Inv-loop μ-loop
-loop-again-2 c = go-again (rulesTo _ _) (c .before .before .before .before .before .before .before .before .loop .inv) _ _ (c .before .before .before .before .before .before .before .loop-test .taken) (rules-turn _ _ (piece-of (c .before .before .before .before .before .before .before .before .loop .inv .row) (c .before .before .before .before .before .before .before .loop-test .taken)) _ (same-as (c .before .before .before .before .before .before .byte .ensures .0) (c .before .before .before .before .before .if2 .left)) (behind (c .before .before .before .before .before .before .before .before .loop .inv .done))) (c .before .before .before .rule .ensures) (c .elder3 .ensures)
+loop-again-2 c =
+    let at-rule = c .before .before .before in
+    let at-byte = at-rule .before .before .before in
+    let turn = at-byte .before in
+    go-again (rulesTo _ _) (turn .before .loop .inv) _ _ (turn .loop-test .taken) (rules-turn _ _ (piece-of (turn .before .loop .inv .row) (turn .loop-test .taken)) _ (same-as (at-byte .byte .ensures .0) (at-rule .before .before .if2 .left)) (behind (turn .before .loop .inv .done))) (at-rule .rule .ensures) (c .elder3 .ensures)
 
 same-length : tie.Need-same-length Inv-loop μ-loop
 same-length c = c .before .loop .inv .long

@@ -31,16 +31,29 @@ target-returns : (t : ℕ) → target-lts.Need-returns (target-calls t) (target-
 target-returns t c = nothing (target-none _ _ _ _ (omega (arith, c .if1 .taken)))
 
 target-returns-2 : (t : ℕ) → target-lts.Need-returns-2 (target-calls t) (target-at t) target.Post
-target-returns-2 t c = nothing (target-other _ _ _ _ (λ z. c .before .before .if1 .left (omega (arith, z, c .before .before .before .before .before .pre .1 .0))) (differs 4 (c .before .byte .ensures .0) (c .if2 .taken)))
+target-returns-2 t c =
+    let start = c .before .before .before .before .before in
+    nothing (target-other _ _ _ _ (λ z. c .before .before .if1 .left (omega (arith, z, start .pre .1 .0))) (differs 4 (c .before .byte .ensures .0) (c .if2 .taken)))
 
 target-target-requires : (t : ℕ) → target-lts.Need-target-requires (target-calls t) (target-at t) target.Post
-target-target-requires t c κs = (search needs, (search needs, search needs, search needs, target-rest _ _ _ _ _ (omega (arith, c .before .before .before .before .if1 .left, c .before .before .before .before .before .before .before .pre .1 .0)) (same-as (c .before .before .before .byte .ensures .0) (c .before .before .if2 .left)) (c .before .span-in .ensures .0) _ (c .before .before .before .before .before .before .before .pre .1 .3), search needs, below-rest _ _ _ _ _ (omega (arith, c .before .before .before .before .if1 .left, c .before .before .before .before .before .before .before .pre .1 .0)) (c .before .span-in .ensures .0) (c .before .before .before .before .before .before .before .pre .1 .5)))
+target-target-requires t c κs =
+    let at-byte = c .before .before .before in
+    let start = at-byte .before .before .before .before in
+    (search needs, (search needs, search needs, search needs, target-rest _ _ _ _ _ (omega (arith, at-byte .before .if1 .left, start .pre .1 .0)) (same-as (at-byte .byte .ensures .0) (c .before .before .if2 .left)) (c .before .span-in .ensures .0) _ (start .pre .1 .3), search needs, below-rest _ _ _ _ _ (omega (arith, at-byte .before .if1 .left, start .pre .1 .0)) (c .before .span-in .ensures .0) (start .pre .1 .5)))
 
 target-section-requires : (t : ℕ) → target-lts.Need-section-requires (target-calls t) (target-at t) target.Post
-target-section-requires t c κs = (search needs, search needs, search needs, before-fits (target-next _ _ _ _ _ (omega (arith, c .before .before .before .before .before .before .before .before .if1 .left, c .before .before .before .before .before .before .before .before .before .before .before .pre .1 .0)) (same-as (c .before .before .before .before .before .before .before .byte .ensures .0) (c .before .before .before .before .before .before .if2 .left)) (c .before .before .before .before .before .span-in .ensures .0) _ _ (c .before .before .before .target .ensures .starts)) (c .before .before .before .before .before .before .before .before .before .before .before .pre .1 .3) (c .before .before .before .target .ensures), search needs, below-first _ _ _ _ _ (omega (arith, c .before .before .before .before .before .before .before .before .if1 .left, c .before .before .before .before .before .before .before .before .before .before .before .pre .1 .0)) (c .before .before .before .before .before .span-in .ensures .0) (c .before .before .before .before .before .before .before .before .before .before .before .pre .1 .5))
+target-section-requires t c κs =
+    let at-target = c .before .before .before in
+    let at-if2 = at-target .before .before .before in
+    let start = at-if2 .before .before .before .before .before in
+    (search needs, search needs, search needs, before-fits (target-next _ _ _ _ _ (omega (arith, at-if2 .before .before .if1 .left, start .pre .1 .0)) (same-as (at-if2 .before .byte .ensures .0) (at-if2 .if2 .left)) (at-target .before .before .span-in .ensures .0) _ _ (at-target .target .ensures .starts)) (start .pre .1 .3) (at-target .target .ensures), search needs, below-first _ _ _ _ _ (omega (arith, at-if2 .before .before .if1 .left, start .pre .1 .0)) (at-target .before .before .span-in .ensures .0) (start .pre .1 .5))
 
 target-returns-3 : (t : ℕ) → target-lts.Need-returns-3 (target-calls t) (target-at t) target.Post
-target-returns-3 t c = follows (target-next _ _ _ _ _ (omega (arith, c .before .before .before .before .before .before .before .before .before .before .before .if1 .left, c .before .before .before .before .before .before .before .before .before .before .before .before .before .before .pre .1 .0)) (same-as (c .before .before .before .before .before .before .before .before .before .before .byte .ensures .0) (c .before .before .before .before .before .before .before .before .before .if2 .left)) (c .before .before .before .before .before .before .before .before .span-in .ensures .0) _ _ (c .before .before .before .before .before .before .target .ensures .starts)) (c .before .before .before .before .before .before .target .ensures) (c .before .before .section .ensures)
+target-returns-3 t c =
+    let at-target = c .before .before .before .before .before .before in
+    let at-if2 = at-target .before .before .before in
+    let start = at-if2 .before .before .before .before .before in
+    follows (target-next _ _ _ _ _ (omega (arith, at-if2 .before .before .if1 .left, start .pre .1 .0)) (same-as (at-if2 .before .byte .ensures .0) (at-if2 .if2 .left)) (at-target .before .before .span-in .ensures .0) _ _ (at-target .target .ensures .starts)) (at-target .target .ensures) (c .before .before .section .ensures)
 
 pub +target-spec : {M : Type 1} → statement M
 +target-spec = close μ-target λ t. target-lts.spec (target-calls t)

@@ -12,10 +12,14 @@ returns : tie.Need-returns
 returns c = as-is (conjunction-one _ _ _ _ _ _ _ (c .before .before .before .before .if1 .taken)) (c .before .before .match-entry .ensures)
 
 matches-requires : tie.Need-matches-requires
-matches-requires c κs = (omega (arith, c .before .before .before .before .pre .0, c .before .if1 .left), search needs, search needs, fits-as _ (conjunction-more _ _ _ _ _ _ _ (c .before .before .before .before .pre .0) (c .before .if1 .left)) (c .before .before .before .before .pre .3), search needs, search needs, c .before .before .before .before .pre .6)
+matches-requires c κs =
+    let start = c .before .before .before .before in
+    (omega (arith, start .pre .0, c .before .if1 .left), search needs, search needs, fits-as _ (conjunction-more _ _ _ _ _ _ _ (start .pre .0) (c .before .if1 .left)) (start .pre .3), search needs, search needs, start .pre .6)
 
 returns-2 : tie.Need-returns-2
-returns-2 c = as-is (conjunction-more _ _ _ _ _ _ _ (c .before .before .before .before .before .before .before .pre .0) (c .before .before .before .before .if1 .left)) (c .before .before .matches .ensures)
+returns-2 c =
+    let start = c .before .before .before .before .before .before .before in
+    as-is (conjunction-more _ _ _ _ _ _ _ (start .pre .0) (c .before .before .before .before .if1 .left)) (c .before .before .matches .ensures)
 
 pub conjunction-spec : {M : Type 1} → statement M
 conjunction-spec =

@@ -14,19 +14,33 @@ abbrev μ-loop : tie.MeasureT-loop
 μ-loop book elders i stop l x out₀ end next₀ at₀ start₀ out next at start = next
 
 loop-holds : tie.Need-loop-holds Inv-loop μ-loop
-loop-holds c = go-begin (conjunctionsTo _ _ _ _) _ _ _ (conjunctions-stop _ _ _ _) (c .before .before .before .pre .0) (c .before .before .before .pre .5) (c .elder .ensures)
+loop-holds c =
+    let start = c .before .before .before in
+    go-begin (conjunctionsTo _ _ _ _) _ _ _ (conjunctions-stop _ _ _ _) (start .pre .0) (start .pre .5) (c .elder .ensures)
 
 conjunction-requires : tie.Need-conjunction-requires Inv-loop μ-loop
-conjunction-requires c κs = let p = (piece-of (c .before .before .loop .inv .row) (c .before .loop-test .taken)) in (p .upto, omega (arith, p .inside, c .before .before .before .before .before .before .pre .1), omega (arith, p .inside, c .before .before .before .before .before .before .pre .2), go-room (conjunctionsTo _ _ _ _) (c .before .before .loop .inv) (conjunctions-grow _ _ _ _) (c .before .loop-test .taken) (c .before .before .before .before .before .before .pre .3) (conjunctions-turn _ _ _ _ p _ _ (behind (c .before .before .loop .inv .done)) refl), omega (arith, c .before .before .loop .inv .done .starts, c .before .before .before .before .before .before .pre .4), omega (arith, c .before .before .loop .inv .done .starts, c .before .before .before .before .before .before .pre .4), linked-at p)
+conjunction-requires c κs =
+    let start = c .before .before .before .before .before .before in
+    let p = piece-of (c .before .before .loop .inv .row) (c .before .loop-test .taken) in
+    (p .upto, omega (arith, p .inside, start .pre .1), omega (arith, p .inside, start .pre .2), go-room (conjunctionsTo _ _ _ _) (c .before .before .loop .inv) (conjunctions-grow _ _ _ _) (c .before .loop-test .taken) (start .pre .3) (conjunctions-turn _ _ _ _ p _ _ (behind (c .before .before .loop .inv .done)) refl), omega (arith, c .before .before .loop .inv .done .starts, start .pre .4), omega (arith, c .before .before .loop .inv .done .starts, start .pre .4), linked-at p)
 
 elder-requires-2 : tie.Need-elder-requires-2 Inv-loop μ-loop
-elder-requires-2 c κs = let p = (piece-of (c .before .before .before .before .before .loop .inv .row) (c .before .before .before .before .loop-test .taken)) in omega (arith, p .upto, p .inside, c .before .before .before .before .before .before .before .before .before .pre .1)
+elder-requires-2 c κs =
+    let turn = c .before .before .before .before in
+    let start = turn .before .before .before .before .before in
+    let p = piece-of (turn .before .loop .inv .row) (turn .loop-test .taken) in
+    omega (arith, p .upto, p .inside, start .pre .1)
 
 loop-less : tie.Need-loop-less Inv-loop μ-loop
-loop-less c = (piece-of (c .before .before .before .before .before .before .loop .inv .row) (c .before .before .before .before .before .loop-test .taken)) .upto
+loop-less c =
+    let turn = c .before .before .before .before .before in
+    (piece-of (turn .before .loop .inv .row) (turn .loop-test .taken)) .upto
 
 loop-again : tie.Need-loop-again Inv-loop μ-loop
-loop-again c = go-again (conjunctionsTo _ _ _ _) (c .before .before .before .before .before .before .loop .inv) _ _ (c .before .before .before .before .before .loop-test .taken) (conjunctions-turn _ _ _ _ (piece-of (c .before .before .before .before .before .before .loop .inv .row) (c .before .before .before .before .before .loop-test .taken)) _ _ (behind (c .before .before .before .before .before .before .loop .inv .done)) refl) (c .before .before .before .conjunction .ensures) (c .elder2 .ensures)
+loop-again c =
+    let at-conjunction = c .before .before .before in
+    let turn = at-conjunction .before .before in
+    go-again (conjunctionsTo _ _ _ _) (turn .before .loop .inv) _ _ (turn .loop-test .taken) (conjunctions-turn _ _ _ _ (piece-of (turn .before .loop .inv .row) (turn .loop-test .taken)) _ _ (behind (turn .before .loop .inv .done)) refl) (at-conjunction .conjunction .ensures) (c .elder2 .ensures)
 
 same-length : tie.Need-same-length Inv-loop μ-loop
 same-length c = c .before .loop .inv .long

@@ -14,19 +14,33 @@ abbrev μ-loop : tie.MeasureT-loop
 μ-loop book elders i stop c l n x out₀ end next₀ at₀ start₀ out next at start = next
 
 loop-holds : tie.Need-loop-holds Inv-loop μ-loop
-loop-holds c = go-begin (matchesTo _ _ _ _ _ _) _ _ _ (matches-stop _ _ _ _ _ _) (c .before .before .before .pre .0) (c .before .before .before .pre .6) (c .elder .ensures)
+loop-holds c =
+    let start = c .before .before .before in
+    go-begin (matchesTo _ _ _ _ _ _) _ _ _ (matches-stop _ _ _ _ _ _) (start .pre .0) (start .pre .6) (c .elder .ensures)
 
 match-entry-requires : tie.Need-match-entry-requires Inv-loop μ-loop
-match-entry-requires c κs = let p = (piece-of (c .before .before .loop .inv .row) (c .before .loop-test .taken)) in (omega (arith, p .upto, p .inside, c .before .before .before .before .before .before .pre .2), go-room (matchesTo _ _ _ _ _ _) (c .before .before .loop .inv) (matches-grow _ _ _ _ _ _) (c .before .loop-test .taken) (c .before .before .before .before .before .before .pre .3) (matches-turn _ _ _ _ _ _ p _ _ refl refl), search needs, search needs, search needs)
+match-entry-requires c κs =
+    let start = c .before .before .before .before .before .before in
+    let p = piece-of (c .before .before .loop .inv .row) (c .before .loop-test .taken) in
+    (omega (arith, p .upto, p .inside, start .pre .2), go-room (matchesTo _ _ _ _ _ _) (c .before .before .loop .inv) (matches-grow _ _ _ _ _ _) (c .before .loop-test .taken) (start .pre .3) (matches-turn _ _ _ _ _ _ p _ _ refl refl), search needs, search needs, search needs)
 
 elder-requires-2 : tie.Need-elder-requires-2 Inv-loop μ-loop
-elder-requires-2 c κs = let p = (piece-of (c .before .before .before .before .before .loop .inv .row) (c .before .before .before .before .loop-test .taken)) in omega (arith, p .upto, p .inside, c .before .before .before .before .before .before .before .before .before .pre .1)
+elder-requires-2 c κs =
+    let turn = c .before .before .before .before in
+    let start = turn .before .before .before .before .before in
+    let p = piece-of (turn .before .loop .inv .row) (turn .loop-test .taken) in
+    omega (arith, p .upto, p .inside, start .pre .1)
 
 loop-less : tie.Need-loop-less Inv-loop μ-loop
-loop-less c = (piece-of (c .before .before .before .before .before .before .loop .inv .row) (c .before .before .before .before .before .loop-test .taken)) .upto
+loop-less c =
+    let turn = c .before .before .before .before .before in
+    (piece-of (turn .before .loop .inv .row) (turn .loop-test .taken)) .upto
 
 loop-again : tie.Need-loop-again Inv-loop μ-loop
-loop-again c = go-again (matchesTo _ _ _ _ _ _) (c .before .before .before .before .before .before .loop .inv) _ _ (c .before .before .before .before .before .loop-test .taken) (matches-turn _ _ _ _ _ _ (piece-of (c .before .before .before .before .before .before .loop .inv .row) (c .before .before .before .before .before .loop-test .taken)) _ _ (behind (c .before .before .before .before .before .before .loop .inv .done)) refl) (c .before .before .before .match-entry .ensures) (c .elder2 .ensures)
+loop-again c =
+    let at-match-entry = c .before .before .before in
+    let turn = at-match-entry .before .before in
+    go-again (matchesTo _ _ _ _ _ _) (turn .before .loop .inv) _ _ (turn .loop-test .taken) (matches-turn _ _ _ _ _ _ (piece-of (turn .before .loop .inv .row) (turn .loop-test .taken)) _ _ (behind (turn .before .loop .inv .done)) refl) (at-match-entry .match-entry .ensures) (c .elder2 .ensures)
 
 same-length : tie.Need-same-length Inv-loop μ-loop
 same-length c = c .before .loop .inv .long

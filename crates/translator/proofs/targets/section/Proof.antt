@@ -12,10 +12,14 @@ returns : tie.Need-returns
 returns c = as-is (section-one _ _ _ _ _ (c .before .before .before .before .if1 .taken)) (c .before .before .match-entry .ensures)
 
 conjunctions-requires : tie.Need-conjunctions-requires
-conjunctions-requires c κs = (omega (arith, c .before .before .before .before .pre .0, c .before .if1 .left), search needs, search needs, fits-as _ (section-more _ _ _ _ _ (c .before .before .before .before .pre .0) (c .before .if1 .left)) (c .before .before .before .before .pre .3), search needs, c .before .before .before .before .pre .5)
+conjunctions-requires c κs =
+    let start = c .before .before .before .before in
+    (omega (arith, start .pre .0, c .before .if1 .left), search needs, search needs, fits-as _ (section-more _ _ _ _ _ (start .pre .0) (c .before .if1 .left)) (start .pre .3), search needs, start .pre .5)
 
 returns-2 : tie.Need-returns-2
-returns-2 c = as-is (section-more _ _ _ _ _ (c .before .before .before .before .before .before .before .pre .0) (c .before .before .before .before .if1 .left)) (c .before .before .conjunctions .ensures)
+returns-2 c =
+    let start = c .before .before .before .before .before .before .before in
+    as-is (section-more _ _ _ _ _ (start .pre .0) (c .before .before .before .before .if1 .left)) (c .before .before .conjunctions .ensures)
 
 pub section-spec : {M : Type 1} → statement M
 section-spec =
