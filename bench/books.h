@@ -24,7 +24,7 @@ enum filling { SETS, CONDITIONS, POLICY_TARGET, RULE_TARGET, FILLINGS };
 size_t deep_book(uint8_t *book, unsigned algorithm, unsigned sets, enum filling filling);
 
 /* A book of 1,000 records: sets of one algorithm, one in the other, and in the innermost one record with as many
- * children as there is room for, which makes deep what calls itself for the next sibling. */
+ * children as there is room for, which would make deep whatever called itself for the next sibling. */
 enum width { RULES, POLICIES, OBLIGATIONS, CONJUNCTIONS, MATCHES, PARTS, WIDTHS };
 size_t wide_book(uint8_t *book, unsigned algorithm, unsigned sets, enum width width);
 
