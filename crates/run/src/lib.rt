@@ -268,11 +268,11 @@ pub fn tick(programme: &[u64], request: &[u8], state: State, budget: u64, out: &
         return refused(record::bad_run(), state);
     }
     let ran = run(programme, request, state, budget);
-    let end = ran.state;
     if !ran.ok {
         let outside = record::bad_run();
         return refused(outside, state);
     }
+    let end = ran.state;
     let h = programme::words::unpack(end.head);
     if h.over {
         fill(&end.places, count(h), out);

@@ -21,20 +21,20 @@ run-requires c κs = admit-parts _ _ _ (c .before .admits .ensures) (not-false _
 
 returns-4 : tie.Need-returns-4
 returns-4 c =
-    let end = c .before .before .before .before in
-    let admitted = end .before .before .before in
+    let run = c .before .before .before .before in
+    let admitted = run .before .before in
     let asked = admitted .before .before .before .before in
     let start = asked .before .before .before .before in
     let ran = tick-ran _ _ _ _ (start .args .out .now) _ (asked .judge-request .ensures) _ (admitted .before .before .enum-told .given .1) (admitted .before .if1 .left)
-    _ (admitted .admits .ensures) _ (not-false _ (end .before .before .if2 .left)) (end .before .run .ensures) in
+    _ (admitted .admits .ensures) _ (not-false _ (run .before .if2 .left)) (run .run .ensures) in
     tick-bad _ _ _ _ _ _ ran _ _ (not-true _ (c .before .before .if3 .taken)) (c .before .bad-run2 .ensures) (c .refused4 .ensures)
 
 fill-requires : tie.Need-fill-requires
 fill-requires c κs =
     let unpacked = c .before .before .before .before .before in
-    let end = unpacked .before .before .before in
-    let admitted = end .before .before .before in (
-      count-small _ _ _ _ _ _ _ _ (admitted .admits .ensures) (not-false _ (end .before .before .if2 .left)) (end .before .run .ensures) (unpacked .unpack .ensures) (c .before .count .ensures),
+    let run = unpacked .before .before .before .before in
+    let admitted = run .before .before in (
+      count-small _ _ _ _ _ _ _ _ (admitted .admits .ensures) (not-false _ (run .before .if2 .left)) (run .run .ensures) (unpacked .unpack .ensures) (c .before .count .ensures),
       admitted .before .if1 .left,
     )
 
@@ -43,13 +43,14 @@ same-length c = ⊎-elim (λ w. ap length (w .8) ∙ w .5 .kept .1 .1 .0) (λ w.
 
 returns-5 : tie.Need-returns-5
 returns-5 c =
-    let end = c .before .before .before .before .before in
-    let admitted = end .before .before .before in
+    let chosen = c .before .before .before .before in
+    let run = chosen .before .before in
+    let admitted = run .before .before in
     let asked = admitted .before .before .before .before in
     let start = asked .before .before .before .before in
     let ran = tick-ran _ _ _ _ (start .args .out .now) _ (asked .judge-request .ensures) _ (admitted .before .before .enum-told .given .1) (admitted .before .if1 .left)
-    _ (admitted .admits .ensures) _ (not-false _ (end .before .before .if2 .left)) (end .before .run .ensures) in
-    let ok = not-false _ (c .before .before .before .if3 .left) in
+    _ (admitted .admits .ensures) _ (not-false _ (run .before .if2 .left)) (run .run .ensures) in
+    let ok = not-false _ (chosen .if3 .left) in
     ⊎-elim
     (λ w. tick-finished _ _ _ _ _ _ ran ok _ (c .before .before .unpack .ensures) _ (c .answer .ensures) _ _ (w .3 .ensures) (w .0 .taken) (w .8 ∙ w .5 .ensures))
     (λ w. tick-running _ _ _ _ _ _ ran ok _ (c .before .before .unpack .ensures) _ (c .answer .ensures) _ (w .0 .left) (w .1))
