@@ -33,7 +33,9 @@ digits-digits-requires : (t : ℕ) → digits-lts.Need-digits-requires (digits-c
 digits-digits-requires t c κs = (search needs, tt)
 
 digits-returns-3 : (t : ℕ) → digits-lts.Need-returns-3 (digits-calls t) (digits-at t) digits.Post
-digits-returns-3 t c = as-is (digits-more _ _ (c .before .before .before .before .before .before .before .before .before .before .if1 .left) (c .before .before .before .before .before .before .before .before .before .if2 .left) (c .before .before .before .digit3 .ensures)) (then (c .before .before .before .before .before .before .before .digits .ensures) (c .before .before .put3 .ensures))
+digits-returns-3 t c =
+    let at-digits = c .before .before .before .before .before .before .before in
+    as-is (digits-more _ _ (at-digits .before .before .before .if1 .left) (at-digits .before .before .if2 .left) (c .before .before .before .digit3 .ensures)) (then (at-digits .digits .ensures) (c .before .before .put3 .ensures))
 
 pub +digits-spec : {M : Type 1} → statement M
 +digits-spec = close μ-digits λ t. digits-lts.spec (digits-calls t)

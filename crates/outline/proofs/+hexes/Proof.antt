@@ -34,7 +34,9 @@ hexes-hexes-requires : (t : ℕ) → hexes-lts.Need-hexes-requires (hexes-calls 
 hexes-hexes-requires t c κs = (search needs, tt)
 
 hexes-returns-3 : (t : ℕ) → hexes-lts.Need-returns-3 (hexes-calls t) (hexes-at t) hexes.Post
-hexes-returns-3 t c = as-is (hexes-more _ _ (c .before .before .before .before .before .before .before .before .before .before .if1 .left) (c .before .before .before .before .before .before .before .before .before .if2 .left) (c .before .before .before .before .before .before .before .letter .ensures)) (then (c .before .before .before .before .before .before .put .ensures) (c .before .before .hexes .ensures))
+hexes-returns-3 t c =
+    let at-put = c .before .before .before .before .before .before in
+    as-is (hexes-more _ _ (at-put .before .before .before .before .if1 .left) (at-put .before .before .before .if2 .left) (at-put .before .letter .ensures)) (then (at-put .put .ensures) (c .before .before .hexes .ensures))
 
 pub +hexes-spec : {M : Type 1} → statement M
 +hexes-spec = close μ-hexes λ t. hexes-lts.spec (hexes-calls t)

@@ -5,7 +5,10 @@ use Rattle.outline.proofs.lead.Statement.{statement}
 use Rattle.outline.proofs.lead.Tie as tie
 
 returns : tie.Need-returns
-returns c = as-is (sym (c .before .before .before .unit .ensures)) (then (c .before .before .before .before .before .before .before .before .before .before .before .put .ensures) (then (c .before .before .before .before .before .before .before .put2 .ensures) (c .before .before .put3 .ensures)))
+returns c =
+    let at-put2 = c .before .before .before .before .before .before .before in
+    let at-put = at-put2 .before .before .before .before in
+    as-is (sym (c .before .before .before .unit .ensures)) (then (at-put .put .ensures) (then (at-put2 .put2 .ensures) (c .before .before .put3 .ensures)))
 
 pub lead-spec : {M : Type 1} → statement M
 lead-spec =

@@ -18,7 +18,10 @@ loop-holds : tie.Need-loop-holds Inv-loop μ-loop
 loop-holds c = (search needs, says-none _ _ (search needs))
 
 loop-again : tie.Need-loop-again Inv-loop μ-loop
-loop-again c = (search needs, as-is (take-more (c .before .before .before .before .before .before .before .before .before .before .before .before .before .args .w .now) (c .before .before .before .before .before .before .loop .i) (search needs)) (then (c .before .before .before .before .before .before .loop .inv .1) (c .before .before .put .ensures)))
+loop-again c =
+    let at-loop = c .before .before .before .before .before .before in
+    let start = at-loop .before .before .before .before .before .before .before in
+    (search needs, as-is (take-more (start .args .w .now) (at-loop .loop .i) (search needs)) (then (at-loop .loop .inv .1) (c .before .before .put .ensures)))
 
 same-length : tie.Need-same-length Inv-loop μ-loop
 same-length c = kept (c .before .loop .inv .1) ∙ c .before .before .before .before .none .kept .0
