@@ -1,9 +1,9 @@
 -- Books and requests judged by computation. Assumes nothing.
 use mathlib.Core.Path.{_≡_, refl}
 use mathlib.Core.List.{List, [], _∷_}
-use Prim.Native.Nat.{ℕ, zero, suc}
+use Prim.Native.Nat.{ℕ, zero, suc, _*_}
 use lib.ListN.{set}
-use Rattle.record.specs.Bytes.{spanOf, bigOf}
+use Rattle.record.specs.Bytes.{size, spanOf, bigOf}
 use Rattle.record.specs.Refusals.{book, request, noRecord, cutShort, badField, badPlace}
 use Rattle.record.specs.Below.{allBelow}
 use Rattle.record.proofs.BookA.{bytes, lines, bookA, is40}
@@ -12,7 +12,7 @@ use Rattle.fields.specs.First.{countBelow, lastBelow, firstFrom}
 use Rattle.fields.specs.Fields.{kindOf, kindAt, typeOf, typeAt, finite, zeros, plainOk, sectionOk, comparesOk, obligationOk, fieldOk, obligationsOf}
 use Rattle.fields.specs.Entries.{entryOk}
 use Rattle.judge.specs.Place.{endOf, parentOf, elderOf, depthOf, holdsConditions, singleOf, rankAt, elderRank, standsOk, childRule, childBroken, topOk, brokenAt, placeOk}
-use Rattle.judge.specs.Judge.{judgeRecords, judgeOf}
+use Rattle.judge.specs.Judge.{judgeRecords, judgeOf, placeRule}
 use Rattle.judge.specs.Request.{judgeEntries, judgeRequestOf}
 use Rattle.judge.specs.declared.Judged.{Judged}
 use Rattle.judge.specs.declared.Judged.the-variants.{Accepted, Refused}
@@ -56,6 +56,22 @@ computed : judged
     ∷ Refused (badPlace 17) ∷ []
 unfolding a bytes lines bookA nested judged judgeOf judgeRecords spanOf allBelow countBelow lastBelow firstFrom kindOf kindAt typeOf typeAt finite bigOf finiteOf zeros plainOk sectionOk comparesOk obligationOk fieldOk obligationsOf endOf parentOf elderOf depthOf holdsConditions singleOf rankAt elderRank standsOk childRule childBroken topOk brokenAt placeOk
 computed = refl
+
+-- the place rules: book A; greater of a name; a span past the parent's end; line 1's span; a rule after an obligation; 17 nested sets; a rule in the place of the
+-- last of them, which stands wrongly before it is too deep
+rules : List ℕ
+rules =
+    placeRule a
+    ∷ placeRule (set a 53 2)
+    ∷ placeRule (set a 19 6)
+    ∷ placeRule (set a 3 5)
+    ∷ placeRule (set (set a 80 3) 87 0)
+    ∷ placeRule (nested 17)
+    ∷ placeRule (set (nested 17) (16 * size) 3) ∷ []
+
+computed-rules : rules ≡ 0 ∷ 0 ∷ 10 ∷ 9 ∷ 11 ∷ 12 ∷ 11 ∷ []
+unfolding a bytes lines bookA nested judgeOf judgeRecords spanOf allBelow countBelow lastBelow firstFrom kindOf kindAt typeOf typeAt finite zeros plainOk sectionOk comparesOk obligationOk fieldOk obligationsOf endOf parentOf elderOf depthOf holdsConditions singleOf rankAt elderRank standsOk childRule childBroken topOk brokenAt placeOk rules placeRule
+computed-rules = refl
 
 -- the request of document 01's printed example
 forty : List ℕ

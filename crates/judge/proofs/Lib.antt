@@ -6,6 +6,7 @@ pub mod Children
 pub mod Parts
 pub mod Parties
 pub mod Exactly
+pub mod Found
 pub mod ExactlyRequest
 pub mod Bounds
 pub mod Sound

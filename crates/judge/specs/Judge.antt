@@ -1,5 +1,5 @@
 -- What a book's record bytes are judged: 3, 4, 2, the first line with 5, the first line with 6. Assumes nothing.
-use Prim.Native.Nat.{ℕ, _+_, _*_, _/_, _%_}
+use Prim.Native.Nat.{ℕ, _+_, _-_, _*_, _/_, _%_}
 use mathlib.Core.List.{List}
 use lib.Dec.{eqb, ltb}
 use lib.ListN.{length}
@@ -37,3 +37,11 @@ judgeOf b =
     (if (ltb 0 (length b % size)) (Refused (cutShort book))
     (if (ltb (mostRecords * size) (length b)) (Refused (tooMany book))
     (judgeRecords b (length b / size))))
+
+-- the place rule, 9 to 12, that the refused line breaks; 0 where the book is not refused for a place rule, which is by 6
+abbrev pub ruleIn : List ℕ → Judged → ℕ
+ruleIn b (Accepted n k) = 0
+ruleIn b (Refused r) = if (eqb (r .number) 6) (brokenAt b (r .line - 1)) 0
+
+unfoldable pub placeRule : List ℕ → ℕ
+placeRule b = ruleIn b (judgeOf b)

@@ -10,14 +10,17 @@ ghost use Rattle.fields.specs.First.{firstFrom};
 ghost use Rattle.fields.specs.Fields.{fieldOk};
 ghost use Rattle.judge.specs.Place.{mostDepth, kindNumber, holdsConditions, singleOf, takesOf, rankOf, riseOf, underOk, standsOk, childRule};
 ghost use Rattle.judge.specs.Walk.{Walk, Finds};
-ghost use Rattle.judge.specs.Judge.{placeRefusal, judgeRecords, judgeOf};
+ghost use Rattle.judge.specs.Judge.{placeRefusal, judgeRecords, judgeOf, placeRule};
 ghost use Rattle.judge.specs.Request.{judgeRequestOf};
 
 mod grammar;
 mod kept;
 
 // Nesting has at most so many levels.
-const MOST_DEPTH: usize = 16;
+pub const MOST_DEPTH: usize = 16;
+
+// The number of the refusal for a place rule.
+const BAD_PLACE: u8 = 6;
 
 pub enum Judged {
     Accepted { records: usize, obligations: usize },
@@ -309,6 +312,25 @@ pub fn judge_book(book: &[u8]) -> Judged
         return Judged::Refused(record::too_many(1));
     }
     judge_records(book, book.len() / record::SIZE)
+}
+
+// The place rule, 9 to 12, that the refused line breaks; 0 where the book is not refused for a place rule.
+pub fn place_rule(book: &[u8]) -> usize
+    ensures { λ r. ⌜ r ≡ placeRule (now (book .entry)) ⌝ }
+{
+    match judge_book(book) {
+        Judged::Accepted {
+            records: _,
+            obligations: _,
+        } => 0,
+        Judged::Refused(refusal) => {
+            if refusal.number != BAD_PLACE {
+                return 0;
+            }
+            let found = first_place(book, book.len() / record::SIZE);
+            found.rule
+        }
+    }
 }
 
 // A request's record bytes: accepted, with the number of entries, or the first refusal.

@@ -1,16 +1,24 @@
--- Depth and parent as loops find them. Assumes nothing.
+-- Depth, parent and phrases as loops find them, and where a refusal stands. Assumes nothing.
 use mathlib.Core.Path.{_≡_, refl, sym, _∙_}
 use mathlib.Core.Bool.{Bool}
 use mathlib.Core.List.{List}
-use Prim.Native.Nat.{ℕ, _+_, _≤_}
+use Prim.Native.Nat.{ℕ, _+_, _-_, _*_, _≤_, _<_}
 use native.Mathlib.Numerals.{add-one}
 use native.Mathlib.Omega.{arith}
-use lib.Dec.{ltb}
+use lib.Dec.{eqb, ltb}
+use lib.ListN.{length, take, drop, getD}
+use borrow.Author.Tests.{lt-ltb, le-ltb, eq-eqb, ne-eqb}
 use Rattle.record.specs.Choose.{if}
-use Rattle.record.specs.Bytes.{spanOf}
-use Rattle.fields.specs.First.{countBelow, lastBelow}
-use Rattle.fields.proofs.First.{count-more}
+use Rattle.record.specs.Bytes.{size, spanOf}
+use Rattle.record.specs.declared.Refusal.{Refusal}
+use Rattle.fields.specs.First.{countBelow, lastBelow, firstFrom}
+use Rattle.fields.proofs.First.{count-more, first-none, first-here, first-next}
 use Rattle.judge.specs.Place.{endOf, covers, depthOf, parentOf}
+use Rattle.judge.specs.Judge.{judgeOf}
+use Rattle.judge.specs.Exactly.{Breaks, empty, cut, many, field, place}
+use Rattle.judge.specs.declared.Judged.the-variants.{Refused}
+use Rattle.judge.proofs.Exactly.{refused-breaks}
+use Rattle.show.specs.Phrase.{barAt, fewer, noBar, startOf, stopOf, phraseOf}
 
 pub covers-is : (b : List ℕ) (i j : ℕ) {s : ℕ} → s ≡ spanOf b j → ltb i (j + s) ≡ covers b i j
 unfolding endOf
@@ -43,3 +51,56 @@ parent-more b i j e p q = q ∙ rw (e, p) (sym (last-more (covers b i) j))
 pub parent-end : (b : List ℕ) (i j : ℕ) {p : ℕ} → j ≤ i → i ≤ j → p ≡ lastBelow (covers b i) j → p ≡ parentOf b i
 unfolding parentOf
 parent-end b i j g h e = let s : j ≡ i = omega arith in rw (e, s)
+
+-- phrases: where one starts, and where it stops
+module _ (w : List ℕ) (k : ℕ) where
+  pub start-none : firstFrom (fewer w k) 0 (length w - 0) ≡ startOf w k
+  unfolding startOf
+  start-none = let e : length w - 0 ≡ length w = omega arith in rw e
+
+  module _ {i : ℕ} (g : firstFrom (fewer w k) i (length w - i) ≡ startOf w k) where
+    pub start-here : {bars : ℕ} → bars ≡ countBelow (barAt w) i → i < length w → k ≤ bars → i ≡ startOf w k
+    start-here {bars} e h l = sym (first-here (fewer w k) i (length w - i) (omega arith) (rw (← e) (le-ltb bars k l))) ∙ g
+
+    pub start-more : {bars : ℕ} → bars ≡ countBelow (barAt w) i → i < length w → bars < k
+        → firstFrom (fewer w k) (i + 1) (length w - (i + 1)) ≡ startOf w k
+    start-more {bars} e h l =
+        sym (first-next (fewer w k) i (length w - i) (length w - (i + 1)) (omega arith) (rw (← e) (lt-ltb bars k l))) ∙ g
+
+    pub start-end : length w ≤ i → i ≡ startOf w k
+    start-end h = sym (first-none (fewer w k) i (length w - i) (omega arith)) ∙ g
+
+pub bars-more : (w : List ℕ) (i : ℕ) {bars m : ℕ} → bars ≡ countBelow (barAt w) i → m ≡ if (eqb (getD w i 0) 124) 1 0
+    → bars + m ≡ countBelow (barAt w) (i + 1)
+bars-more w i e q = rw (e, q) (sym (count-more (barAt w) i))
+
+module _ (w : List ℕ) (from : ℕ) where
+  pub stop-none : firstFrom (noBar w) from (length w - from) ≡ stopOf w from
+  unfolding stopOf
+  stop-none = refl
+
+  module _ {i : ℕ} (g : firstFrom (noBar w) i (length w - i) ≡ stopOf w from) where
+    pub stop-here : i < length w → getD w i 0 ≡ 124 → i ≡ stopOf w from
+    stop-here h e = sym (first-here (noBar w) i (length w - i) (omega arith) (rw (eq-eqb (getD w i 0) 124 e))) ∙ g
+
+    pub stop-more : i < length w → (getD w i 0 ≡ 124 → ⊥) → firstFrom (noBar w) (i + 1) (length w - (i + 1)) ≡ stopOf w from
+    stop-more h e =
+        sym (first-next (noBar w) i (length w - i) (length w - (i + 1)) (omega arith) (rw (ne-eqb (getD w i 0) 124 e))) ∙ g
+
+    pub stop-end : length w ≤ i → i ≡ stopOf w from
+    stop-end h = sym (first-none (noBar w) i (length w - i) (omega arith)) ∙ g
+
+pub phrase-is : (w : List ℕ) (k : ℕ) {a e : ℕ} → a ≡ startOf w k → e ≡ stopOf w a → take (e - a) (drop a w) ≡ phraseOf w k
+unfolding phraseOf
+phrase-is w k p q = rw (q, p)
+
+-- the line of a refusal is a line of the book
+pub refused-inside : (b : List ℕ) {r : Refusal} → judgeOf b ≡ Refused r → r .line * size ≤ length b
+refused-inside b {r} e = go (refused-breaks b r e)
+  where
+    go : Breaks b r → r .line * size ≤ length b
+    go (empty er l) = rw er (omega arith)
+    go (cut er l) = rw er (omega arith)
+    go (many er l m) = rw er (omega arith)
+    go (field n i er s w) = rw er (omega (arith, s .bytes, w .inside))
+    go (place n i er s k w) = rw er (omega (arith, s .bytes, w .inside))

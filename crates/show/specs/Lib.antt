@@ -1,0 +1,4 @@
+pub mod Phrase
+pub mod Outline
+pub mod Fault
+pub mod Written

@@ -1,0 +1,220 @@
+// What is wrong with a refused record: the field rule that it breaks, or how it breaks the place rule that the judgement found. A fault is the number
+// of its phrase, so that the prover walks one call for all of them.
+use crate::lines::Line;
+use crate::nesting::parent;
+use crate::numbers::choose;
+use fields::Kind;
+use fields::Sort;
+ghost use mathlib.Core.Path.{_≡_};
+ghost use Prim.Native.Nat.{_+_, _*_, _≤_};
+ghost use lib.ListN.{length};
+ghost use Rattle.record.specs.Bytes.{size};
+ghost use Rattle.show.specs.Fault.{kindFault, plainFault, categoryFault, sectionFault, valueFault, comparesFault, fieldFault, conditionFault, childFault, faultOf};
+ghost use Rattle.show.specs.Written.{Inside};
+
+// Field rules: kind, choice, span; category, type, value, function; bytes that a plain record, a section, an obligation does not use.
+const NO_KIND: usize = 1;
+
+const NO_CHOICE: usize = 2;
+
+const NO_SPAN: usize = 3;
+
+const NOTHING_BELOW: usize = 4;
+
+const SOMETHING_BELOW: usize = 5;
+
+const NO_CATEGORY: usize = 6;
+
+const NO_TYPE: usize = 7;
+
+const NOT_FINITE: usize = 8;
+
+const NAME_ORDERED: usize = 9;
+
+const PLAIN_BYTE: usize = 10;
+
+const SECTION_BYTE: usize = 11;
+
+const OBLIGATION_BYTE: usize = 12;
+
+// Place rules: of line 1; of any other, past the parent's end, not taken by it, not at that place below it, too deep.
+const NO_TOP: usize = 13;
+
+const NOT_ALL: usize = 14;
+
+const PAST_END: usize = 15;
+
+const NOT_TAKEN: usize = 16;
+
+const LATE_SECTION: usize = 17;
+
+const OTHER_CATEGORY: usize = 18;
+
+const SECOND_IN_RULE: usize = 19;
+
+const SECOND_IN_NOT: usize = 20;
+
+const AFTER_OBLIGATION: usize = 21;
+
+const TOO_DEEP: usize = 22;
+
+// A fault in words: the phrases stand in the order of the numbers above.
+pub fn fault_words(fault: usize, l: Line) -> Line
+    ensures { λ r. ⌜ Inside r ⌝ }
+{
+    l.phrase(
+        b"|byte 0 is no kind, 1 to 8\
+          |byte 1 is no choice of its kind\
+          |its span, bytes 2 and 3, is 0\
+          |its span is below 2, and something must stand below it\
+          |its span is not 1, and nothing stands below it\
+          |byte 4 is no category, 1 to 4\
+          |byte 5 is no type, 1 to 3, or 129 to 131\
+          |its double is not finite\
+          |a name is compared by equal alone\
+          |a byte that its kind does not use, of 4 to 15, is not zero\
+          |a byte that its kind does not use, of 5 to 15, is not zero\
+          |a byte that its kind does not use, of 4, 5 and 8 to 15, is not zero\
+          |line 1 is no policy set and no policy\
+          |its span is not the number of records\
+          |it runs past its parent's end\
+          |its parent takes no record of its kind\
+          |sections stand first, and their categories rise\
+          |a match has the category of its section\
+          |a rule has at most one condition\
+          |not has exactly one condition below it\
+          |obligations stand last\
+          |it is nested deeper than 16",
+        fault,
+    )
+}
+
+// The fault of kind k and its choice, which are in no row of the table.
+fn kind_fault(k: usize) -> usize
+    ensures { λ r. ⌜ r ≡ kindFault k ⌝ }
+{
+    if k < 1 {
+        return NO_KIND;
+    }
+    choose(k <= 8, NO_CHOICE, NO_KIND)
+}
+
+// .. of a record that uses no byte but kind, choice and span, the span being at least s.
+fn plain_fault(span: usize, s: usize) -> usize
+    ensures { λ r. ⌜ r ≡ plainFault span s ⌝ }
+{
+    if span == 0 {
+        return NO_SPAN;
+    }
+    choose(span < s, NOTHING_BELOW, PLAIN_BYTE)
+}
+
+// .. of category c; where there is such a category, another fault.
+fn category_fault(c: usize, other: usize) -> usize
+    ensures { λ r. ⌜ r ≡ categoryFault c other ⌝ }
+{
+    if c < 1 {
+        return NO_CATEGORY;
+    }
+    choose(c <= 4, other, NO_CATEGORY)
+}
+
+// .. of a section.
+fn section_fault(span: usize, category: usize) -> usize
+    ensures { λ r. ⌜ r ≡ sectionFault span category ⌝ }
+{
+    category_fault(category, choose(span < 2, NOTHING_BELOW, SECTION_BYTE))
+}
+
+// .. of the value of a match or comparison, by its type; an integer has none.
+fn value_fault(t: Sort) -> usize
+    ensures { λ r. ⌜ r ≡ valueFault t ⌝ }
+{
+    match t {
+        Sort::Integer => 0,
+        Sort::Name => NAME_ORDERED,
+        Sort::Double => NOT_FINITE,
+        Sort::Other => NO_TYPE,
+    }
+}
+
+// .. of a match or comparison.
+fn compares_fault(span: usize, category: usize, t: Sort) -> usize
+    ensures { λ r. ⌜ r ≡ comparesFault span category t ⌝ }
+{
+    category_fault(category, choose(span == 1, value_fault(t), SOMETHING_BELOW))
+}
+
+// .. of record i of kind k, which breaks a field rule.
+fn field_fault(book: &[u8], i: usize, k: Kind) -> usize
+    requires { ⌜ (i + 1) * size ≤ length (now book) ⌝ }
+    ensures { λ r. ⌜ r ≡ fieldFault (now (book .entry)) i k ⌝ }
+{
+    let span = record::span(book, i);
+    let category = record::byte(book, i, 4);
+    let t = fields::type_at(book, i);
+    match k {
+        Kind::PolicySet => plain_fault(span, 1),
+        Kind::Policy => plain_fault(span, 1),
+        Kind::Rule => plain_fault(span, 1),
+        Kind::Section => section_fault(span, category),
+        Kind::Conjunction => plain_fault(span, 2),
+        Kind::Match => compares_fault(span, category, t),
+        Kind::Logic => plain_fault(span, 1),
+        Kind::Not => plain_fault(span, 2),
+        Kind::Comparison => compares_fault(span, category, t),
+        Kind::Obligation => choose(span == 1, OBLIGATION_BYTE, SOMETHING_BELOW),
+        Kind::Nothing => kind_fault(record::byte(book, i, 0)),
+    }
+}
+
+// .. of a condition that may not stand below a parent whose kind is p.
+fn condition_fault(p: usize) -> usize
+    ensures { λ r. ⌜ r ≡ conditionFault p ⌝ }
+{
+    if p == 3 {
+        return SECOND_IN_RULE;
+    }
+    choose(p == 7, SECOND_IN_NOT, NOT_TAKEN)
+}
+
+// .. of a record that may not stand below a parent whose kind is p: the parent takes no such record, or takes it at another place.
+fn child_fault(p: usize, k: Kind) -> usize
+    ensures { λ r. ⌜ r ≡ childFault p k ⌝ }
+{
+    match k {
+        Kind::PolicySet => choose(p == 1, AFTER_OBLIGATION, NOT_TAKEN),
+        Kind::Policy => choose(p == 1, AFTER_OBLIGATION, NOT_TAKEN),
+        Kind::Rule => choose(p == 2, AFTER_OBLIGATION, NOT_TAKEN),
+        Kind::Section => choose(p < 4, LATE_SECTION, NOT_TAKEN),
+        Kind::Conjunction => NOT_TAKEN,
+        Kind::Match => choose(p == 5, OTHER_CATEGORY, NOT_TAKEN),
+        Kind::Logic => condition_fault(p),
+        Kind::Not => condition_fault(p),
+        Kind::Comparison => condition_fault(p),
+        Kind::Obligation => NOT_TAKEN,
+        Kind::Nothing => NOT_TAKEN,
+    }
+}
+
+// The fault of record i, by the place rule that it breaks: 9 is line 1's, 10 is the parent's end, 11 is what the parent allows, 12 is the depth; 0 stands
+// for a field rule.
+pub fn fault(book: &[u8], i: usize, rule: usize) -> usize
+    requires { ⌜ (i + 1) * size ≤ length (now book) ⌝ }
+    ensures { λ r. ⌜ r ≡ faultOf (now (book .entry)) i rule ⌝ }
+{
+    let k = fields::kind_at(book, i);
+    if rule == 0 {
+        return field_fault(book, i, k);
+    }
+    if rule == 9 {
+        return choose(2 < record::byte(book, i, 0), NO_TOP, NOT_ALL);
+    }
+    if rule == 10 {
+        return PAST_END;
+    }
+    if rule == 11 {
+        return child_fault(record::byte(book, parent(book, i), 0), k);
+    }
+    TOO_DEEP
+}
