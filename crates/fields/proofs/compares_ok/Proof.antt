@@ -8,13 +8,22 @@ returns : tie.Need-returns
 returns c = compares-span _ _ _ (c .before .before .type-at .ensures) (c .before .span .ensures .0) (c .if1 .taken)
 
 returns-2 : tie.Need-returns-2
-returns-2 c = compares-category _ _ _ (c .before .before .before .before .before .type-at .ensures) (c .before .before .before .before .span .ensures .0) (c .before .before .before .if1 .left) (c .before .before .byte .ensures .0) (c .before .category-ok .ensures) (not-true _ (c .if2 .taken))
+returns-2 c =
+    let spanned = c .before .before .before in
+    compares-category _ _ _ (spanned .before .before .type-at .ensures) (spanned .before .span .ensures .0) (spanned .if1 .left) (c .before .before .byte .ensures .0) (c .before .category-ok .ensures) (not-true _ (c .if2 .taken))
 
 returns-3 : tie.Need-returns-3
-returns-3 c = compares-value _ _ _ (c .before .before .before .before .before .before .before .before .type-at .ensures) (c .before .before .before .before .before .before .before .span .ensures .0) (c .before .before .before .before .before .before .if1 .left) (c .before .before .before .before .before .byte .ensures .0) (c .before .before .before .before .category-ok .ensures) (not-false _ (c .before .before .before .if2 .left)) (c .before .before .is-finite .ensures) (c .before .value-ok .ensures) (not-true _ (c .if3 .taken))
+returns-3 c =
+    let category = c .before .before .before in
+    let spanned = category .before .before .before in
+    compares-value _ _ _ (spanned .before .before .type-at .ensures) (spanned .before .span .ensures .0) (spanned .if1 .left) (category .before .before .byte .ensures .0) (category .before .category-ok .ensures) (not-false _ (category .if2 .left)) (c .before .before .is-finite .ensures) (c .before .value-ok .ensures) (not-true _ (c .if3 .taken))
 
 returns-4 : tie.Need-returns-4
-returns-4 c = compares-rest _ _ _ (c .before .before .before .before .before .before .before .before .before .type-at .ensures) (c .before .before .before .before .before .before .before .before .span .ensures .0) (c .before .before .before .before .before .before .before .if1 .left) (c .before .before .before .before .before .before .byte .ensures .0) (c .before .before .before .before .before .category-ok .ensures) (not-false _ (c .before .before .before .before .if2 .left)) (c .before .before .before .is-finite .ensures) (c .before .before .value-ok .ensures) (not-false _ (c .before .if3 .left)) (c .function-ok .ensures)
+returns-4 c =
+    let valued = c .before in
+    let category = valued .before .before .before in
+    let spanned = category .before .before .before in
+    compares-rest _ _ _ (spanned .before .before .type-at .ensures) (spanned .before .span .ensures .0) (spanned .if1 .left) (category .before .before .byte .ensures .0) (category .before .category-ok .ensures) (not-false _ (category .if2 .left)) (valued .before .before .is-finite .ensures) (valued .before .value-ok .ensures) (not-false _ (valued .if3 .left)) (c .function-ok .ensures)
 
 pub compares-ok-spec : {M : Type 1} → statement M
 compares-ok-spec =
