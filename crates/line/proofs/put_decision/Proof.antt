@@ -38,11 +38,11 @@ same-length c = search needs
 
 returns-3 : tie.Need-returns-3
 returns-3 c =
-    let args = c .before .before .before .before .before .before .before .before .before .before .before .before .before .before .before .before .args in
-    let a = c .before .before .before .before .before .before .before .before .before .before .two-digits in
-    let b = c .before .before .before .before .before .before .four-digits in
-    let d = c .before .before .put-obligations in
-    (sym (length-decision _ _) ∙ places-fits _ _ (omega (arith, length-decision (args .decision) (args .obligations .now))), decision-put _ _ _ (omega arith) (a .ensures) (b .ensures) (d .ensures))
+    let obliged = c .before .before in
+    let counted = obliged .before .before .before .before in
+    let decided = counted .before .before .before .before in
+    let args = decided .before .before .before .before .before .before .args in
+    (sym (length-decision _ _) ∙ places-fits _ _ (omega (arith, length-decision (args .decision) (args .obligations .now))), decision-put _ _ _ (omega arith) (decided .two-digits .ensures) (counted .four-digits .ensures) (obliged .put-obligations .ensures))
 
 pub put-decision-spec : {M : Type 1} → statement M
 put-decision-spec =

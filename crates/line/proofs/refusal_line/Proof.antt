@@ -34,20 +34,20 @@ slice-write-out c = search needs
 
 same-length : tie.Need-same-length
 same-length c =
-    let a = c .before .before .before .before .before .before .before .before .before .before .before .before .before .before .before .before .two-digits in
-    let b = c .before .before .before .before .before .before .before .before .before .before .before .two-digits2 in
-    let d = c .before .before .before .before .before .before .two-digits3 in
-    let e = c .before .before .four-digits in
-    simp length-set (omega (arith, e .kept .0, a .kept .0, b .kept .0, d .kept .0))
+    let lined = c .before .before in
+    let parted = lined .before .before .before .before in
+    let numbered = parted .before .before .before .before .before in
+    let marked = numbered .before .before .before .before .before in
+    simp length-set (omega (arith, lined .four-digits .kept .0, marked .two-digits .kept .0, numbered .two-digits2 .kept .0, parted .two-digits3 .kept .0))
 
 returns-2 : tie.Need-returns-2
 returns-2 c =
-    let args = c .before .before .before .before .before .before .before .before .before .before .before .before .before .before .before .before .before .before .before .before .args in
-    let a = c .before .before .before .before .before .before .before .before .before .before .before .before .before .before .before .before .two-digits in
-    let b = c .before .before .before .before .before .before .before .before .before .before .before .two-digits2 in
-    let d = c .before .before .before .before .before .before .two-digits3 in
-    let e = c .before .before .four-digits in
-    (sym (length-refusal _) ∙ places-fits _ _ (omega (arith, length-refusal (args .refusal))), refusal-put _ _ (search needs) (a .ensures) (b .ensures) (d .ensures) (e .ensures))
+    let lined = c .before .before in
+    let parted = lined .before .before .before .before in
+    let numbered = parted .before .before .before .before .before in
+    let marked = numbered .before .before .before .before .before in
+    let args = marked .before .before .before .before .args in
+    (sym (length-refusal _) ∙ places-fits _ _ (omega (arith, length-refusal (args .refusal))), refusal-put _ _ (search needs) (marked .two-digits .ensures) (numbered .two-digits2 .ensures) (parted .two-digits3 .ensures) (lined .four-digits .ensures))
 
 pub refusal-line-spec : {M : Type 1} → statement M
 refusal-line-spec =
