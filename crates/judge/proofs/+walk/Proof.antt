@@ -1,13 +1,12 @@
-use Prim.Native.Nat.{_≤_, _+_, _-_}
+use Prim.Native.Nat.{ℕ, _≤_, _<_, _+_, _-_}
 use mathlib.Core.Path.{_≡_, refl, _∙_}
 use Rattle.fields.specs.First.{firstFrom}
 use Rattle.fields.proofs.First.{first-none}
 use Rattle.judge.specs.Place.{placeOk}
 use Rattle.judge.specs.Walk.{Walk}
-use Rattle.judge.proofs.Laws.{stop-here, passed, bounds, kids, stop-in, rest, go-on, found, found-none, found-leaf}
+use Rattle.judge.proofs.Laws.{Passed, stop-here, passed, bounds, kids, stop-in, rest, go-on, found, found-none, found-leaf}
 use native.Mathlib.Omega.{arith}
 use borrow.Author.Needs.{needs}
-use Prim.Native.Nat.{ℕ, _<_}
 use borrow.Fn.Kinds.{In}
 use borrow.Fn.PlainCycle.{Measures, is, falls, and}
 use Rattle.judge.proofs.walk.Reads as walk
@@ -47,25 +46,58 @@ walk-loop-holds : (t : ℕ) → walk-lts.Need-loop-holds (walk-calls t) (walk-at
 walk-loop-holds t c = (omega arith, omega arith, omega arith, c .before .pre .1 .3, refl)
 
 walk-returns : (t : ℕ) → walk-lts.Need-returns (walk-calls t) (walk-at t) walk.Post walk-Inv-loop walk-μ-loop
-walk-returns t c = found _ (stop-here _ (c .before .before .before .before .before .before .before .loop .inv .3) (c .before .before .before .before .before .before .loop-test .taken) (c .before .before .before .before .before .kind-at .ensures) (c .before .before .before .before .byte .ensures .0) (c .before .before .before .span .ensures .0) (c .before .before .stands .ensures) (c .before .child-rule .ensures) (c .if1 .taken)) (c .before .before .before .before .before .before .before .loop .inv .4) (omega arith)
+walk-returns t c =
+    let spanned = c .before .before .before in
+    let turn = spanned .before .before .before in
+    found _ (stop-here _ (turn .before .loop .inv .3) (turn .loop-test .taken) (spanned .before .before .kind-at .ensures) (spanned .before .byte .ensures .0) (spanned .span .ensures .0) (c .before .before .stands .ensures) (c .before .child-rule .ensures) (c .if1 .taken)) (turn .before .loop .inv .4) (omega arith)
+
+-- the record of this turn breaks no rule
+walk-passed : (t : ℕ) (c : walk-lts.Else1 (walk-calls t) (walk-at t) walk.Post walk-Inv-loop walk-μ-loop) →
+    let spanned = c .before .before .before in
+    let turn = spanned .before .before .before in
+    let a = turn .before .before .before .args in
+    let i = turn .before .loop .i in
+    Passed (a .book .now) (a .parent) i (a .top) (a .depth) (a .kind) (a .outer) (a .category) (turn .before .loop .before) (spanned .before .before .kind-at .result) (spanned .before .byte .result) (i + spanned .span .result)
+walk-passed t c =
+    let spanned = c .before .before .before in
+    let turn = spanned .before .before .before in
+    passed _ (turn .before .loop .inv .3) (turn .loop-test .taken) (spanned .before .before .kind-at .ensures) (spanned .before .byte .ensures .0) (spanned .span .ensures .0) (c .before .before .stands .ensures) (c .before .child-rule .ensures) (c .if1 .left)
 
 walk-loop-less : (t : ℕ) → walk-lts.Need-loop-less (walk-calls t) (walk-at t) walk.Post walk-Inv-loop walk-μ-loop
-walk-loop-less t c = let h = passed _ (c .before .before .before .before .before .before .before .before .before .loop .inv .3) (c .before .before .before .before .before .before .before .before .loop-test .taken) (c .before .before .before .before .before .before .before .kind-at .ensures) (c .before .before .before .before .before .before .byte .ensures .0) (c .before .before .before .before .before .span .ensures .0) (c .before .before .before .before .stands .ensures) (c .before .before .before .child-rule .ensures) (c .before .before .if1 .left) in let y = bounds _ h in omega arith
+walk-loop-less t c = let y = bounds _ (walk-passed t (c .before .before)) in omega arith
 
 walk-loop-again : (t : ℕ) → walk-lts.Need-loop-again (walk-calls t) (walk-at t) walk.Post walk-Inv-loop walk-μ-loop
-walk-loop-again t c = let h = passed _ (c .before .before .before .before .before .before .before .before .before .loop .inv .3) (c .before .before .before .before .before .before .before .before .loop-test .taken) (c .before .before .before .before .before .before .before .kind-at .ensures) (c .before .before .before .before .before .before .byte .ensures .0) (c .before .before .before .before .before .span .ensures .0) (c .before .before .before .before .stands .ensures) (c .before .before .before .child-rule .ensures) (c .before .before .if1 .left) in let y = bounds _ h in let f = found-leaf (c .before .before .before .before .before .before .before .before .before .before .before .args .book .now) (c .before .before .before .before .before .before .before .before .before .loop .i) (c .if2 .taken) in (omega arith, omega arith, omega arith, rest _ h f (omega arith) (c .before .rank .ensures .0), go-on _ h f (omega arith) (c .before .before .before .before .before .before .before .before .before .loop .inv .4))
+walk-loop-again t c =
+    let kept = c .before .before in
+    let turn = kept .before .before .before .before .before .before in
+    let h = walk-passed t kept in
+    let y = bounds _ h in
+    let f = found-leaf (turn .before .before .before .args .book .now) (turn .before .loop .i) (c .if2 .taken) in
+    (omega arith, omega arith, omega arith, rest _ h f (omega arith) (c .before .rank .ensures .0), go-on _ h f (omega arith) (turn .before .loop .inv .4))
 
 walk-walk-requires : (t : ℕ) → walk-lts.Need-walk-requires (walk-calls t) (walk-at t) walk.Post walk-Inv-loop walk-μ-loop
-walk-walk-requires t c κs = let h = passed _ (c .before .before .before .before .before .before .before .before .before .before .loop .inv .3) (c .before .before .before .before .before .before .before .before .before .loop-test .taken) (c .before .before .before .before .before .before .before .before .kind-at .ensures) (c .before .before .before .before .before .before .before .byte .ensures .0) (c .before .before .before .before .before .before .span .ensures .0) (c .before .before .before .before .before .stands .ensures) (c .before .before .before .before .child-rule .ensures) (c .before .before .before .if1 .left) in let y = bounds _ h in (omega arith, (omega arith, omega arith, omega arith, kids _ h (c .number .ensures)))
+walk-walk-requires t c κs =
+    let h = walk-passed t (c .before .before .before) in
+    let y = bounds _ h in
+    (omega arith, (omega arith, omega arith, omega arith, kids _ h (c .number .ensures)))
 
 walk-returns-2 : (t : ℕ) → walk-lts.Need-returns-2 (walk-calls t) (walk-at t) walk.Post walk-Inv-loop walk-μ-loop
-walk-returns-2 t c = let h = passed _ (c .before .before .before .before .before .before .before .before .before .before .before .before .before .loop .inv .3) (c .before .before .before .before .before .before .before .before .before .before .before .before .loop-test .taken) (c .before .before .before .before .before .before .before .before .before .before .before .kind-at .ensures) (c .before .before .before .before .before .before .before .before .before .before .byte .ensures .0) (c .before .before .before .before .before .before .before .before .before .span .ensures .0) (c .before .before .before .before .before .before .before .before .stands .ensures) (c .before .before .before .before .before .before .before .child-rule .ensures) (c .before .before .before .before .before .before .if1 .left) in found _ (stop-in _ h (c .before .before .walk .ensures) (c .if3 .taken)) (c .before .before .before .before .before .before .before .before .before .before .before .before .before .loop .inv .4) (omega arith)
+walk-returns-2 t c =
+    let kept = c .before .before .before .before .before .before in
+    let turn = kept .before .before .before .before .before .before in
+    found _ (stop-in _ (walk-passed t kept) (c .before .before .walk .ensures) (c .if3 .taken)) (turn .before .loop .inv .4) (omega arith)
 
 walk-loop-less-2 : (t : ℕ) → walk-lts.Need-loop-less-2 (walk-calls t) (walk-at t) walk.Post walk-Inv-loop walk-μ-loop
-walk-loop-less-2 t c = let h = passed _ (c .before .before .before .before .before .before .before .before .before .before .before .before .before .loop .inv .3) (c .before .before .before .before .before .before .before .before .before .before .before .before .loop-test .taken) (c .before .before .before .before .before .before .before .before .before .before .before .kind-at .ensures) (c .before .before .before .before .before .before .before .before .before .before .byte .ensures .0) (c .before .before .before .before .before .before .before .before .before .span .ensures .0) (c .before .before .before .before .before .before .before .before .stands .ensures) (c .before .before .before .before .before .before .before .child-rule .ensures) (c .before .before .before .before .before .before .if1 .left) in let y = bounds _ h in omega arith
+walk-loop-less-2 t c = let y = bounds _ (walk-passed t (c .before .before .before .before .before .before)) in omega arith
 
 walk-loop-again-2 : (t : ℕ) → walk-lts.Need-loop-again-2 (walk-calls t) (walk-at t) walk.Post walk-Inv-loop walk-μ-loop
-walk-loop-again-2 t c = let h = passed _ (c .before .before .before .before .before .before .before .before .before .before .before .before .before .loop .inv .3) (c .before .before .before .before .before .before .before .before .before .before .before .before .loop-test .taken) (c .before .before .before .before .before .before .before .before .before .before .before .kind-at .ensures) (c .before .before .before .before .before .before .before .before .before .before .byte .ensures .0) (c .before .before .before .before .before .before .before .before .before .span .ensures .0) (c .before .before .before .before .before .before .before .before .stands .ensures) (c .before .before .before .before .before .before .before .child-rule .ensures) (c .before .before .before .before .before .before .if1 .left) in let y = bounds _ h in (omega arith, omega arith, omega arith, rest _ h (c .before .before .walk .ensures) (c .if3 .left) (c .before .before .before .before .before .rank .ensures .0), go-on _ h (c .before .before .walk .ensures) (c .if3 .left) (c .before .before .before .before .before .before .before .before .before .before .before .before .before .loop .inv .4))
+walk-loop-again-2 t c =
+    let ranked = c .before .before .before .before .before in
+    let turn = ranked .before .before .before .before .before .before .before in
+    let h = walk-passed t (ranked .before) in
+    let y = bounds _ h in
+    let f = c .before .before .walk .ensures in
+    (omega arith, omega arith, omega arith, rest _ h f (c .if3 .left) (ranked .rank .ensures .0), go-on _ h f (c .if3 .left) (turn .before .loop .inv .4))
 
 walk-returns-3 : (t : ℕ) → walk-lts.Need-returns-3 (walk-calls t) (walk-at t) walk.Post walk-Inv-loop walk-μ-loop
 walk-returns-3 t c = let e : c .before .loop .i ≡ c .before .before .before .args .top = omega arith in found-none _ (c .before .loop .inv .4 ∙ first-none (placeOk (c .before .before .before .args .book .now)) (c .before .loop .i) (c .before .before .before .args .top - c .before .loop .i) (omega arith) ∙ e) (omega arith)
