@@ -6,8 +6,10 @@ use Rattle.run.proofs.fill.Tie as tie
 
 returns : tie.Need-returns
 returns c =
-    let a = c .before .before .before .before .before .before .before .before .before .before .args in
-    filled (a .places .now) (a .out .now) _ _ (a .count) (search needs) (omega arith) (c .before .before .before .before .before .before .copy .ensures) (c .before .before .clear .ensures)
+    let cleared = c .before .before in
+    let copied = cleared .before .before .before .before in
+    let a = copied .before .before .before .before .args in
+    filled (a .places .now) (a .out .now) _ _ (a .count) (search needs) (omega arith) (copied .copy .ensures) (cleared .clear .ensures)
 
 pub fill-spec : {M : Type 1} → statement M
 fill-spec = tie.close (tie.spec (λ c κs. search needs) (λ c κs. search needs) (λ c. search needs) returns)

@@ -32,16 +32,20 @@ returns : tie.Need-returns Inv-loop μ-loop
 returns c = let v = c .before .before .before .loop .inv in run-over _ _ _ _ _ _ _ (v .0) (v .1) _ _ _ (c .before .before .loop-test .taken) (v .3) (c .before .if1 .taken) _ (c .number .ensures)
 
 step-in-requires : tie.Need-step-in-requires Inv-loop μ-loop
-step-in-requires c κs = (c .before .before .before .before .before .before .before .before .before .pre .0, c .before .before .before .before .before .loop .inv .0)
+step-in-requires c κs =
+    let turn = c .before .before .before .before in
+    (turn .before .before .before .before .before .pre .0, turn .before .loop .inv .0)
 
 number-requires-2 : tie.Need-number-requires-2 Inv-loop μ-loop
 number-requires-2 c κs = held _ (c .before .before .before .before .before .before .before .before .loop .inv .0)
 
 returns-2 : tie.Need-returns-2 Inv-loop μ-loop
 returns-2 c =
-    let v = c .before .before .before .before .before .before .before .before .before .loop .inv in
-    let went = c .before .before .before .step-in .ensures in
-    run-bad _ _ _ _ _ _ _ (v .0) (v .1) _ _ _ (c .before .before .before .before .before .before .before .before .loop-test .taken) (v .3) (c .before .before .before .before .before .before .before .if1 .left) _ _ _ _ _ (went .0) (went .1) (not-true _ (c .before .if2 .taken)) _ (c .number2 .ensures)
+    let stepped = c .before .before .before in
+    let turn = stepped .before .before .before .before .before in
+    let v = turn .before .loop .inv in
+    let went = stepped .step-in .ensures in
+    run-bad _ _ _ _ _ _ _ (v .0) (v .1) _ _ _ (turn .loop-test .taken) (v .3) (stepped .before .before .before .before .if1 .left) _ _ _ _ _ (went .0) (went .1) (not-true _ (c .before .if2 .taken)) _ (c .number2 .ensures)
 
 add-steps : tie.Need-add-steps Inv-loop μ-loop
 add-steps c = omega arith
@@ -51,12 +55,14 @@ loop-less c = omega arith
 
 loop-again : tie.Need-loop-again Inv-loop μ-loop
 loop-again c =
-    let v = c .before .before .before .before .before .before .before .before .before .loop .inv in
-    let went = c .before .before .before .step-in .ensures in (
+    let stepped = c .before .before .before in
+    let turn = stepped .before .before .before .before .before in
+    let v = turn .before .loop .inv in
+    let went = stepped .step-in .ensures in (
       went .2,
-      apart-on (c .before .before .before .before .before .before .before .before .before .loop .steps) (c .before .before .before .before .before .before .before .before .before .before .before .before .before .args .start) _ (went .2),
+      apart-on (turn .before .loop .steps) (turn .before .before .before .before .before .args .start) _ (went .2),
       omega arith,
-      run-more _ _ _ _ _ _ _ (v .0) (v .1) _ _ _ (c .before .before .before .before .before .before .before .before .loop-test .taken) (v .3) (c .before .before .before .before .before .before .before .if1 .left) _ _ _ _ _ (went .0) (went .1) _ (not-false _ (c .before .if2 .left)),
+      run-more _ _ _ _ _ _ _ (v .0) (v .1) _ _ _ (turn .loop-test .taken) (v .3) (stepped .before .before .before .before .if1 .left) _ _ _ _ _ (went .0) (went .1) _ (not-false _ (c .before .if2 .left)),
     )
 
 number-requires-3 : tie.Need-number-requires-3 Inv-loop μ-loop
