@@ -88,16 +88,23 @@ abbrev walk-calls : ℕ → walk-lts.Claims
 walk-calls t = (begin-reads.Asked, begin-reads.Learnt, span-in-reads.Asked, span-in-reads.Learnt, is-party-reads.Asked, is-party-reads.Learnt, child-below t, child.Post, outcome-reads.Asked, outcome-reads.Learnt, take-in-reads.Asked, take-in-reads.Learnt, stay-reads.Asked, stay-reads.Learnt, settle-reads.Asked, settle-reads.Learnt, settles-reads.Asked, settles-reads.Learnt)
 
 body-gather-requires : (t : ℕ) → body-lts.Need-gather-requires (body-calls t) (body-at t) body.Post
-body-gather-requires t c κs = (omega arith, (c .before .before .before .before .pre .1 .0, c .before .before .before .before .pre .1 .1, omega (arith, c .before .before .before .before .pre .1 .2, rooms (c .before .before .before .before .args .book .now) (c .before .before .before .before .args .i + 1) (c .before .before .before .before .args .s - 1)), c .before .before .before .before .pre .1 .3))
+body-gather-requires t c κs =
+    let start = c .before .before .before .before in
+    (omega arith, (start .pre .1 .0, start .pre .1 .1, omega (arith, start .pre .1 .2, rooms (start .args .book .now) (start .args .i + 1) (start .args .s - 1)), start .pre .1 .3))
 
 body-own-requires : (t : ℕ) → body-lts.Need-own-requires (body-calls t) (body-at t) body.Post
-body-own-requires t c κs = (search needs, omega (arith, c .before .before .before .gather .ensures .puts .within, c .before .before .before .gather .kept .1 .1 .1 .1 .1 .0, c .before .before .before .before .before .before .before .before .pre .1 .2, rooms (c .before .before .before .before .before .before .before .before .args .book .now) (c .before .before .before .before .before .before .before .before .args .i + 1) (c .before .before .before .before .before .before .before .before .args .s - 1)))
+body-own-requires t c κs =
+    let gathered = c .before .before .before in
+    let start = gathered .before .before .before .before .before in
+    (search needs, omega (arith, gathered .gather .ensures .puts .within, gathered .gather .kept .1 .1 .1 .1 .1 .0, start .pre .1 .2, rooms (start .args .book .now) (start .args .i + 1) (start .args .s - 1)))
 
 body-returns : (t : ℕ) → body-lts.Need-returns (body-calls t) (body-at t) body.Post
 body-returns t c = body-own _ _ _ _ (c .before .before .before .before .before .before .gather .ensures) (c .before .before .own .ensures)
 
 child-body-requires : (t : ℕ) → child-lts.Need-body-requires (child-calls t) (child-at t) child.Post
-child-body-requires t c κs = (omega arith, (c .before .before .before .before .before .before .before .pre .1 .0, c .before .before .before .before .before .before .before .pre .1 .1, c .before .before .before .before .before .before .before .pre .1 .2, c .before .before .before .before .before .before .before .pre .1 .3))
+child-body-requires t c κs =
+    let start = c .before .before .before .before .before .before .before in
+    (omega arith, (start .pre .1 .0, start .pre .1 .1, start .pre .1 .2, start .pre .1 .3))
 
 child-returns : (t : ℕ) → child-lts.Need-returns (child-calls t) (child-at t) child.Post
 child-returns t c = child-no _ _ _ _ (c .before .before .target .ensures) _ _ _ (c .enum-told .given .1)
@@ -112,25 +119,49 @@ gather-returns : (t : ℕ) → gather-lts.Need-returns (gather-calls t) (gather-
 gather-returns t c = gather-rules _ _ _ _ (c .before .before .before .byte .ensures .0) (c .before .before .byte2 .ensures .0) _ _ _ (c .before .if1 .taken) (c .rules .ensures)
 
 gather-sub-body : (t : ℕ) → gather-lts.Need-sub-body (gather-calls t) (gather-at t) gather.Post
-gather-sub-body t c = let w = picked-one _ _ _ _ (c .before .before .before .choose .ensures) (c .before .p .given .1) in omega (arith, w .applies .nest, c .before .before .before .before .before .before .before .before .before .before .before .before .before .pre .1 .3)
+gather-sub-body t c =
+    let set = c .before .before .before .before .before .before .before in
+    let start = set .before .before .before .before .before .before in
+    let w = picked-one _ _ _ _ (c .before .before .before .choose .ensures) (c .before .p .given .1) in
+    omega (arith, w .applies .nest, start .pre .1 .3)
 
 gather-body-requires : (t : ℕ) → gather-lts.Need-body-requires (gather-calls t) (gather-at t) gather.Post
-gather-body-requires t c κs = let w = picked-one _ _ _ _ (c .before .before .before .before .choose .ensures) (c .before .before .p .given .1) in (omega (arith, w .applies .fits, c .before .before .before .before .before .before .before .before .before .before .before .before .before .before .pre .1 .0), (w .applies .there, omega (arith, w .applies .ends, c .before .before .before .before .before .before .before .before .before .before .before .before .before .before .pre .1 .0, c .before .before .before .before .before .before .before .before .before .before .before .before .before .before .pre .1 .1), omega (arith, w .applies .room, c .before .before .before .before .before .before .before .before .before .before .before .before .before .before .pre .1 .2), omega (arith, w .applies .nest, c .before .before .before .before .before .before .before .before .before .before .before .before .before .before .pre .1 .3)))
+gather-body-requires t c κs =
+    let set = c .before .before .before .before .before .before .before .before in
+    let start = set .before .before .before .before .before .before in
+    let w = picked-one _ _ _ _ (c .before .before .before .before .choose .ensures) (c .before .before .p .given .1) in
+    (omega (arith, w .applies .fits, start .pre .1 .0), (w .applies .there, omega (arith, w .applies .ends, start .pre .1 .0, start .pre .1 .1), omega (arith, w .applies .room, start .pre .1 .2), omega (arith, w .applies .nest, start .pre .1 .3)))
 
 gather-returns-2 : (t : ℕ) → gather-lts.Need-returns-2 (gather-calls t) (gather-at t) gather.Post
-gather-returns-2 t c = gather-nobody _ _ _ _ (c .before .before .before .before .before .before .before .before .byte .ensures .0) (c .before .before .before .before .before .before .before .byte2 .ensures .0) (c .before .before .before .before .before .before .if1 .left) (c .before .before .before .before .before .over-policies .ensures) (c .before .before .before .before .is-only .ensures) (c .before .before .before .if2 .taken) _ _ _ (c .before .before .choose .ensures) (c .enum-told .given .1)
+gather-returns-2 t c =
+    let only = c .before .before .before in
+    let set = only .before .before .before in
+    gather-nobody _ _ _ _ (set .before .before .byte .ensures .0) (set .before .byte2 .ensures .0) (set .if1 .left) (only .before .before .over-policies .ensures) (only .before .is-only .ensures) (only .if2 .taken) _ _ _ (c .before .before .choose .ensures) (c .enum-told .given .1)
 
 gather-returns-3 : (t : ℕ) → gather-lts.Need-returns-3 (gather-calls t) (gather-at t) gather.Post
-gather-returns-3 t c = gather-many _ _ _ _ (c .before .before .before .before .before .before .before .before .byte .ensures .0) (c .before .before .before .before .before .before .before .byte2 .ensures .0) (c .before .before .before .before .before .before .if1 .left) (c .before .before .before .before .before .over-policies .ensures) (c .before .before .before .before .is-only .ensures) (c .before .before .before .if2 .taken) _ _ _ (c .before .before .choose .ensures) (c .enum-told2 .given .1)
+gather-returns-3 t c =
+    let only = c .before .before .before in
+    let set = only .before .before .before in
+    gather-many _ _ _ _ (set .before .before .byte .ensures .0) (set .before .byte2 .ensures .0) (set .if1 .left) (only .before .before .over-policies .ensures) (only .before .is-only .ensures) (only .if2 .taken) _ _ _ (c .before .before .choose .ensures) (c .enum-told2 .given .1)
 
 gather-returns-4 : (t : ℕ) → gather-lts.Need-returns-4 (gather-calls t) (gather-at t) gather.Post
-gather-returns-4 t c = let w = picked-one _ _ _ _ (c .before .before .before .before .before .before .before .choose .ensures) (c .before .before .before .before .before .p .given .1) in gather-one _ _ _ _ (c .before .before .before .before .before .before .before .before .before .before .before .before .before .byte .ensures .0) (c .before .before .before .before .before .before .before .before .before .before .before .before .byte2 .ensures .0) (c .before .before .before .before .before .before .before .before .before .before .before .if1 .left) (c .before .before .before .before .before .before .before .before .before .before .over-policies .ensures) (c .before .before .before .before .before .before .before .before .before .is-only .ensures) (c .before .before .before .before .before .before .before .before .if2 .taken) w (c .before .before .body .ensures)
+gather-returns-4 t c =
+    let one = c .before .before .before .before .before in
+    let only = one .before .before .before in
+    let set = only .before .before .before in
+    let w = picked-one _ _ _ _ (one .before .before .choose .ensures) (one .p .given .1) in
+    gather-one _ _ _ _ (set .before .before .byte .ensures .0) (set .before .byte2 .ensures .0) (set .if1 .left) (only .before .before .over-policies .ensures) (only .before .is-only .ensures) (only .if2 .taken) w (c .before .before .body .ensures)
 
 gather-walk-requires : (t : ℕ) → gather-lts.Need-walk-requires (gather-calls t) (gather-at t) gather.Post
-gather-walk-requires t c κs = (search needs, (search needs, c .before .before .before .before .before .before .before .before .before .before .pre .1 .2, c .before .before .before .before .before .before .before .before .before .before .pre .1 .3, sym (c .before .before .is-only .ensures) ∙ c .before .if2 .left))
+gather-walk-requires t c κs =
+    let set = c .before .before .before .before in
+    let start = set .before .before .before .before .before .before in
+    (search needs, (search needs, start .pre .1 .2, start .pre .1 .3, sym (c .before .before .is-only .ensures) ∙ c .before .if2 .left))
 
 gather-returns-5 : (t : ℕ) → gather-lts.Need-returns-5 (gather-calls t) (gather-at t) gather.Post
-gather-returns-5 t c = gather-walk _ _ _ _ (c .before .before .before .before .before .before .before .before .before .byte .ensures .0) (c .before .before .before .before .before .before .before .before .byte2 .ensures .0) (c .before .before .before .before .before .before .before .if1 .left) (c .before .before .before .before .before .before .over-policies .ensures) (c .before .before .walk .ensures)
+gather-returns-5 t c =
+    let set = c .before .before .before .before .before .before .before in
+    gather-walk _ _ _ _ (set .before .before .byte .ensures .0) (set .before .byte2 .ensures .0) (set .if1 .left) (c .before .before .before .before .before .before .over-policies .ensures) (c .before .before .walk .ensures)
 
 abbrev walk-Inv-loop : walk-lts.InvT-loop
 walk-Inv-loop book request from count a depth out₀ n i₀ left₀ acc₀ m₀ out i left acc m = (i + left ≡ from + count) × (left ≤ count) × Sofar book (bagsOf request) a out₀ n from count i left acc out m × (height (forest book i left) ≤ depth)
@@ -142,25 +173,55 @@ walk-loop-holds : (t : ℕ) → walk-lts.Need-loop-holds (walk-calls t) (walk-at
 walk-loop-holds t c = (refl, omega arith, walk-start _ _ _ _ _ _ _ (c .before .before .before .before .pre .1 .3) (c .begin .ensures), c .before .before .before .before .pre .1 .2)
 
 walk-loop-again : (t : ℕ) → walk-lts.Need-loop-again (walk-calls t) (walk-at t) walk.Post walk-Inv-loop walk-μ-loop
-walk-loop-again t c = (omega arith, omega arith, walk-skip (c .before .before .before .before .before .before .before .before .before .pre .1 .3) (c .before .before .before .before .loop .inv .2) (c .before .before .before .loop-test .taken) (c .before .before .span-in .ensures .0) (c .before .is-party .ensures) (not-true _ (c .if1 .taken)), omega (arith, c .before .before .before .before .loop .inv .3, nest-rest _ _ _ (c .before .before .before .loop-test .taken) (c .before .before .span-in .ensures .0)))
+walk-loop-again t c =
+    let turn = c .before .before .before in
+    let start = turn .before .before .before .before .before .before in
+    (omega arith, omega arith, walk-skip (start .pre .1 .3) (turn .before .loop .inv .2) (turn .loop-test .taken) (c .before .before .span-in .ensures .0) (c .before .is-party .ensures) (not-true _ (c .if1 .taken)), omega (arith, turn .before .loop .inv .3, nest-rest _ _ _ (turn .loop-test .taken) (c .before .before .span-in .ensures .0)))
 
 walk-sub-child : (t : ℕ) → walk-lts.Need-sub-child (walk-calls t) (walk-at t) walk.Post walk-Inv-loop walk-μ-loop
 walk-sub-child t c = omega (arith, c .before .before .before .before .loop .inv .3, nest-kids _ _ _ (c .before .before .before .loop-test .taken) (c .before .before .span-in .ensures .0))
 
 walk-child-requires : (t : ℕ) → walk-lts.Need-child-requires (walk-calls t) (walk-at t) walk.Post walk-Inv-loop walk-μ-loop
-walk-child-requires t c κs = (search needs, (search needs, search needs, omega (arith, c .before .before .before .before .before .loop .inv .2 .room, c .before .before .before .before .before .loop .inv .2 .kept, c .before .before .before .before .before .before .before .before .before .before .pre .1 .1, deep-is _ _ _ (c .before .before .before .before .loop-test .taken) (c .before .before .before .span-in .ensures .0)), omega (arith, c .before .before .before .before .before .loop .inv .3, nest-kids _ _ _ (c .before .before .before .before .loop-test .taken) (c .before .before .before .span-in .ensures .0))))
+walk-child-requires t c κs =
+    let turn = c .before .before .before .before in
+    let start = turn .before .before .before .before .before .before in
+    let sofar = turn .before .loop .inv .2 in
+    (search needs, (search needs, search needs, omega (arith, sofar .room, sofar .kept, start .pre .1 .1, deep-is _ _ _ (turn .loop-test .taken) (c .before .before .before .span-in .ensures .0)), omega (arith, turn .before .loop .inv .3, nest-kids _ _ _ (turn .loop-test .taken) (c .before .before .before .span-in .ensures .0))))
 
 walk-settle-requires : (t : ℕ) → walk-lts.Need-settle-requires (walk-calls t) (walk-at t) walk.Post walk-Inv-loop walk-μ-loop
-walk-settle-requires t c κs = (omega (arith, c .before .before .before .before .before .before .before .before .before .before .before .before .before .before .loop .inv .2 .holds .count), omega (arith, c .before .before .before .before .before .before .before .before .child .ensures .puts .holds .count), omega (arith, c .before .before .before .before .before .before .before .before .child .ensures .puts .within, c .before .before .before .before .before .before .before .before .before .before .before .before .before .before .loop .inv .2 .room, c .before .before .before .before .before .before .before .before .before .before .before .before .before .before .loop .inv .2 .kept, c .before .before .before .before .before .before .before .before .child .kept .1 .1 .1 .1 .1 .0, c .before .before .before .before .before .before .before .before .before .before .before .before .before .before .before .before .before .before .before .pre .1 .1, deep-is _ _ _ (c .before .before .before .before .before .before .before .before .before .before .before .before .before .loop-test .taken) (c .before .before .before .before .before .before .before .before .before .before .before .before .span-in .ensures .0)))
+walk-settle-requires t c κs =
+    let decided = c .before .before .before .before .before .before .before .before in
+    let turn = decided .before .before .before .before .before in
+    let start = turn .before .before .before .before .before .before in
+    let sofar = turn .before .loop .inv .2 in
+    (omega (arith, sofar .holds .count), omega (arith, decided .child .ensures .puts .holds .count), omega (arith, decided .child .ensures .puts .within, sofar .room, sofar .kept, decided .child .kept .1 .1 .1 .1 .1 .0, start .pre .1 .1, deep-is _ _ _ (turn .loop-test .taken) (decided .before .before .before .before .span-in .ensures .0)))
 
 walk-same-length : (t : ℕ) → walk-lts.Need-same-length (walk-calls t) (walk-at t) walk.Post walk-Inv-loop walk-μ-loop
-walk-same-length t c = c .before .before .before .before .settle .kept .0 ∙ c .before .before .before .before .before .before .before .before .before .before .before .before .before .child .kept .1 .1 .1 .1 .1 .0 ∙ c .before .before .before .before .before .before .before .before .before .before .before .before .before .before .before .before .before .before .before .loop .inv .2 .kept
+walk-same-length t c =
+    let settled = c .before .before .before .before in
+    let stood = settled .before .before .before .before .before .before in
+    let decided = stood .before .before .before in
+    settled .settle .kept .0 ∙ decided .child .kept .1 .1 .1 .1 .1 .0 ∙ decided .before .before .before .before .before .before .loop .inv .2 .kept
 
 walk-returns : (t : ℕ) → walk-lts.Need-returns (walk-calls t) (walk-at t) walk.Post walk-Inv-loop walk-μ-loop
-walk-returns t c = walk-stop (c .before .before .before .before .before .before .before .before .before .before .before .before .before .before .before .before .before .before .before .before .before .before .before .before .pre .1 .3) (c .before .before .before .before .before .before .before .before .before .before .before .before .before .before .before .before .before .before .before .loop .inv .2) (c .before .before .before .before .before .before .before .before .before .before .before .before .before .before .before .before .before .before .loop-test .taken) (c .before .before .before .before .before .before .before .before .before .before .before .before .before .before .before .before .before .span-in .ensures .0) (c .before .before .before .before .before .before .before .before .before .before .before .before .before .before .before .before .is-party .ensures) (not-false _ (c .before .before .before .before .before .before .before .before .before .before .before .before .before .before .before .if1 .left)) (c .before .before .before .before .before .before .before .before .before .before .before .before .before .child .ensures) (c .before .before .before .before .before .before .before .before .before .before .before .before .before .child .kept .1 .1 .1 .1 .1 .0) (c .before .before .before .before .before .before .before .before .before .before .outcome .ensures) (c .before .before .before .before .before .before .before .before .before .take-in .ensures) (c .before .before .before .before .before .before .before .before .outcome2 .ensures) (c .before .before .before .before .before .before .stay .ensures) (c .before .before .before .before .before .stay2 .ensures) (c .before .settles .ensures) (c .before .before .before .before .settle .ensures) (omega (arith, c .before .before .before .before .before .before .before .before .before .before .before .before .before .before .before .before .before .before .before .before .before .before .before .before .pre .1 .1)) (omega (arith, c .before .before .before .before .before .before .before .before .before .before .before .before .before .before .before .before .before .before .before .loop .inv .2 .room, c .before .before .before .before .before .before .before .before .before .before .before .before .before .before .before .before .before .before .before .loop .inv .2 .kept, c .before .before .before .before .before .before .before .before .before .before .before .before .before .before .before .before .before .before .before .before .before .before .before .before .pre .1 .1)) (c .if2 .taken)
+walk-returns t c =
+    let settled = c .before .before .before .before in
+    let stood = settled .before .before .before .before .before .before in
+    let decided = stood .before .before .before in
+    let turn = decided .before .before .before .before .before in
+    let start = turn .before .before .before .before .before .before in
+    let sofar = turn .before .loop .inv .2 in
+    walk-stop (start .pre .1 .3) sofar (turn .loop-test .taken) (decided .before .before .before .before .span-in .ensures .0) (decided .before .before .before .is-party .ensures) (not-false _ (decided .before .before .if1 .left)) (decided .child .ensures) (decided .child .kept .1 .1 .1 .1 .1 .0) (stood .outcome .ensures) (settled .before .before .before .before .before .take-in .ensures) (settled .before .before .before .before .outcome2 .ensures) (settled .before .before .stay .ensures) (settled .before .stay2 .ensures) (c .before .settles .ensures) (settled .settle .ensures) (omega (arith, start .pre .1 .1)) (omega (arith, sofar .room, sofar .kept, start .pre .1 .1)) (c .if2 .taken)
 
 walk-loop-again-2 : (t : ℕ) → walk-lts.Need-loop-again-2 (walk-calls t) (walk-at t) walk.Post walk-Inv-loop walk-μ-loop
-walk-loop-again-2 t c = (omega (arith, c .before .before .before .before .before .before .before .before .before .before .before .before .before .before .before .before .before .before .before .loop .inv .0, c .before .before .before .before .before .before .before .before .before .before .before .before .before .before .before .before .before .span-in .ensures .1 .1), omega (arith, c .before .before .before .before .before .before .before .before .before .before .before .before .before .before .before .before .before .before .before .loop .inv .1), walk-turn (c .before .before .before .before .before .before .before .before .before .before .before .before .before .before .before .before .before .before .before .before .before .before .before .before .pre .1 .3) (c .before .before .before .before .before .before .before .before .before .before .before .before .before .before .before .before .before .before .before .loop .inv .2) (c .before .before .before .before .before .before .before .before .before .before .before .before .before .before .before .before .before .before .loop-test .taken) (c .before .before .before .before .before .before .before .before .before .before .before .before .before .before .before .before .before .span-in .ensures .0) (c .before .before .before .before .before .before .before .before .before .before .before .before .before .before .before .before .is-party .ensures) (not-false _ (c .before .before .before .before .before .before .before .before .before .before .before .before .before .before .before .if1 .left)) (c .before .before .before .before .before .before .before .before .before .before .before .before .before .child .ensures) (c .before .before .before .before .before .before .before .before .before .before .before .before .before .child .kept .1 .1 .1 .1 .1 .0) (c .before .before .before .before .before .before .before .before .before .before .outcome .ensures) (c .before .before .before .before .before .before .before .before .before .take-in .ensures) (c .before .before .before .before .before .before .before .before .outcome2 .ensures) (c .before .before .before .before .before .before .stay .ensures) (c .before .before .before .before .before .stay2 .ensures) (c .before .settles .ensures) (c .before .before .before .before .settle .ensures) (omega (arith, c .before .before .before .before .before .before .before .before .before .before .before .before .before .before .before .before .before .before .before .before .before .before .before .before .pre .1 .1)) (omega (arith, c .before .before .before .before .before .before .before .before .before .before .before .before .before .before .before .before .before .before .before .loop .inv .2 .room, c .before .before .before .before .before .before .before .before .before .before .before .before .before .before .before .before .before .before .before .loop .inv .2 .kept, c .before .before .before .before .before .before .before .before .before .before .before .before .before .before .before .before .before .before .before .before .before .before .before .before .pre .1 .1)) (c .before .before .before .before .settle .kept .0) (c .if2 .left), omega (arith, c .before .before .before .before .before .before .before .before .before .before .before .before .before .before .before .before .before .before .before .loop .inv .3, nest-rest _ _ _ (c .before .before .before .before .before .before .before .before .before .before .before .before .before .before .before .before .before .before .loop-test .taken) (c .before .before .before .before .before .before .before .before .before .before .before .before .before .before .before .before .before .span-in .ensures .0)))
+walk-loop-again-2 t c =
+    let settled = c .before .before .before .before in
+    let stood = settled .before .before .before .before .before .before in
+    let decided = stood .before .before .before in
+    let turn = decided .before .before .before .before .before in
+    let start = turn .before .before .before .before .before .before in
+    let sofar = turn .before .loop .inv .2 in
+    (omega (arith, turn .before .loop .inv .0, decided .before .before .before .before .span-in .ensures .1 .1), omega (arith, turn .before .loop .inv .1), walk-turn (start .pre .1 .3) sofar (turn .loop-test .taken) (decided .before .before .before .before .span-in .ensures .0) (decided .before .before .before .is-party .ensures) (not-false _ (decided .before .before .if1 .left)) (decided .child .ensures) (decided .child .kept .1 .1 .1 .1 .1 .0) (stood .outcome .ensures) (settled .before .before .before .before .before .take-in .ensures) (settled .before .before .before .before .outcome2 .ensures) (settled .before .before .stay .ensures) (settled .before .stay2 .ensures) (c .before .settles .ensures) (settled .settle .ensures) (omega (arith, start .pre .1 .1)) (omega (arith, sofar .room, sofar .kept, start .pre .1 .1)) (settled .settle .kept .0) (c .if2 .left), omega (arith, turn .before .loop .inv .3, nest-rest _ _ _ (turn .loop-test .taken) (decided .before .before .before .before .span-in .ensures .0)))
 
 walk-same-length-2 : (t : ℕ) → walk-lts.Need-same-length-2 (walk-calls t) (walk-at t) walk.Post walk-Inv-loop walk-μ-loop
 walk-same-length-2 t c = c .before .before .loop .inv .2 .kept
