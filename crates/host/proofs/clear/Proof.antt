@@ -1,6 +1,6 @@
 use Rattle.decider.proofs.Stack.{clear-none, clear-more, clear-done}
 use lib.ListN.{length, drop, take, replicate, length-set}
-use Prim.Native.Nat.{_+_, _-_, _≤_}
+use Prim.Native.Nat.{_-_, _≤_}
 use mathlib.Core.List.{_++_}
 use mathlib.Core.Path.{_≡_, refl}
 use native.Mathlib.Omega.{arith}
