@@ -1,7 +1,13 @@
-use Prim.Native.Nat.{ℕ, _+_, _-_, _*_, _<_}
-use mathlib.Core.Path.{refl, sym, _∙_}
+use Prim.Native.Nat.{ℕ, suc, _+_, _-_, _*_, _<_}
+use mathlib.Core.Path.{_≡_, refl, sym, _∙_}
+use lib.ListN.{length}
 use native.Mathlib.Omega.{arith}
 use borrow.Author.Needs.{needs}
+use Rattle.meaning.specs.Meaning.{overPolicies}
+use Rattle.meaning.specs.Reading.{policiesBy}
+use Rattle.algorithm.specs.Fold.{isOnly}
+use Rattle.translator.specs.Code.{codeApplies}
+use Rattle.translator.specs.Emit.{obligationsCode, bodyCode}
 use Rattle.translator.proofs.Links.{piece-of, linked-at, linked-below}
 use Rattle.translator.proofs.Turns.{Going, go-begin, go-room, go-again, go-skip, go-end, treesTo, trees-stop, trees-turn, trees-skip, trees-grow, set-to, policy-to, body-to, within-to}
 use Rattle.translator.proofs.Emit.{third-fits, second-fits, first-fits, three, behind, past-body, past-both, nothing, same-as, differs, code-of, concluded, left-by, entered, tree-parts, trees-none}
@@ -92,17 +98,39 @@ body-single-requires t c κs =
     let start = c .before .before .before .before .before .before .before in
     (second-fits (body-to _ _ _ _ refl) (start .pre .1 .3) (c .before .before .before .obligations .ensures), search needs, search needs)
 
+-- how far it is to behind the obligations of a body
+body-behind : (t : ℕ) (c : body-lts.After-obligations (body-calls t) (body-at t) body.Post) →
+    let a = c .before .before .before .before .args in
+    a .end - c .obligations .result ≡ length (obligationsCode (a .book .now) (a .i + 1) (a .stop - (a .i + 1)))
+body-behind t c = behind (c .obligations .ensures)
+
 body-trees-requires : (t : ℕ) → body-lts.Need-trees-requires (body-calls t) (body-at t) body.Post
-body-trees-requires t c κs = (search needs, (search needs, search needs, search needs, first-fits (set-to _ _ _ _ _ (same-as (c .before .before .before .byte .ensures .0) (c .before .before .if1 .taken)) (c .before .byte2 .ensures .0) (behind (c .before .before .before .before .before .before .before .before .before .before .obligations .ensures))) (c .before .before .before .before .before .before .before .before .before .before .before .before .before .before .pre .1 .3) (c .before .before .before .before .before .before .before .before .before .before .obligations .ensures) (concluded _ (c .before .before .before .before .before .before .single .ensures)), search needs, c .before .before .before .before .before .before .before .before .before .before .before .before .before .before .pre .1 .5))
+body-trees-requires t c κs =
+    let at-single = c .before .before .before .before .before .before in
+    let at-obligations = at-single .before .before .before .before in
+    let start = at-obligations .before .before .before .before in
+    (search needs, (search needs, search needs, search needs, first-fits (set-to _ _ _ _ _ (same-as (c .before .before .before .byte .ensures .0) (c .before .before .if1 .taken)) (c .before .byte2 .ensures .0) (body-behind t at-obligations)) (start .pre .1 .3) (at-obligations .obligations .ensures) (concluded _ (at-single .single .ensures)), search needs, start .pre .1 .5))
 
 body-returns : (t : ℕ) → body-lts.Need-returns (body-calls t) (body-at t) body.Post
-body-returns t c = three (set-to _ _ _ _ _ (same-as (c .before .before .before .before .before .before .byte .ensures .0) (c .before .before .before .before .before .if1 .taken)) (c .before .before .before .before .byte2 .ensures .0) (behind (c .before .before .before .before .before .before .before .before .before .before .before .before .before .obligations .ensures))) (c .before .before .before .before .before .before .before .before .before .before .before .before .before .obligations .ensures) (concluded _ (c .before .before .before .before .before .before .before .before .before .single .ensures)) (c .before .before .trees .ensures)
+body-returns t c =
+    let at-choice = c .before .before .before .before in
+    let at-single = at-choice .before .before .before .before .before in
+    let at-obligations = at-single .before .before .before .before in
+    three (set-to _ _ _ _ _ (same-as (at-choice .before .before .byte .ensures .0) (at-choice .before .if1 .taken)) (at-choice .byte2 .ensures .0) (body-behind t at-obligations)) (at-obligations .obligations .ensures) (concluded _ (at-single .single .ensures)) (c .before .before .trees .ensures)
 
 body-rules-in-requires : (t : ℕ) → body-lts.Need-rules-in-requires (body-calls t) (body-at t) body.Post
-body-rules-in-requires t c κs = (search needs, search needs, search needs, first-fits (policy-to _ _ _ _ (differs 1 (c .before .before .byte .ensures .0) (c .before .if1 .left)) (behind (c .before .before .before .before .before .before .before .before .before .obligations .ensures))) (c .before .before .before .before .before .before .before .before .before .before .before .before .before .pre .1 .3) (c .before .before .before .before .before .before .before .before .before .obligations .ensures) (concluded _ (c .before .before .before .before .before .single .ensures)), search needs, c .before .before .before .before .before .before .before .before .before .before .before .before .before .pre .1 .5)
+body-rules-in-requires t c κs =
+    let at-single = c .before .before .before .before .before in
+    let at-obligations = at-single .before .before .before .before in
+    let start = at-obligations .before .before .before .before in
+    (search needs, search needs, search needs, first-fits (policy-to _ _ _ _ (differs 1 (c .before .before .byte .ensures .0) (c .before .if1 .left)) (body-behind t at-obligations)) (start .pre .1 .3) (at-obligations .obligations .ensures) (concluded _ (at-single .single .ensures)), search needs, start .pre .1 .5)
 
 body-returns-2 : (t : ℕ) → body-lts.Need-returns-2 (body-calls t) (body-at t) body.Post
-body-returns-2 t c = three (policy-to _ _ _ _ (differs 1 (c .before .before .before .before .before .byte .ensures .0) (c .before .before .before .before .if1 .left)) (behind (c .before .before .before .before .before .before .before .before .before .before .before .before .obligations .ensures))) (c .before .before .before .before .before .before .before .before .before .before .before .before .obligations .ensures) (concluded _ (c .before .before .before .before .before .before .before .before .single .ensures)) (c .before .before .rules-in .ensures)
+body-returns-2 t c =
+    let at-policy = c .before .before .before .before in
+    let at-single = at-policy .before .before .before .before in
+    let at-obligations = at-single .before .before .before .before in
+    three (policy-to _ _ _ _ (differs 1 (at-policy .before .byte .ensures .0) (at-policy .if1 .left)) (body-behind t at-obligations)) (at-obligations .obligations .ensures) (concluded _ (at-single .single .ensures)) (c .before .before .rules-in .ensures)
 
 tree-single-requires : (t : ℕ) → tree-lts.Need-single-requires (tree-calls t) (tree-at t) tree.Post
 tree-single-requires t c κs = (third-fits (tree-parts _ _ _ _ _) _ (c .before .before .before .pre .1 .3), search needs, search needs)
@@ -206,11 +234,31 @@ within-applies-requires t c κs =
     let start = at-body .before .before .before .before in
     (second-fits (within-to _ _ _ _ _ _ _ (past-body _ (at-body .body .ensures) (c .before .beyond .ensures)) refl) (start .pre .1 .3) (at-body .body .ensures), search needs)
 
+-- how far it is to behind the body, from before it and from before what says that it applies
+within-behind : (t : ℕ) (c : within-lts.After-applies (within-calls t) (within-at t) within.Post) →
+    let at-body = c .before .before .before .before .before in
+    let a = at-body .before .before .before .before .args in
+    let k = c .before .before .beyond .result in
+    let body = length (bodyCode (a .book .now) (a .i) (a .stop - a .i)) in
+    (k ≡ body + suc (a .n)) × (a .end - c .applies .result ≡ length (codeApplies (isOnly (overPolicies (policiesBy (a .up)))) k) + body)
+within-behind t c =
+    let done = c .before .before .before .before .before .body .ensures in
+    (past-body _ done (c .before .before .beyond .ensures), past-both done (c .applies .ensures))
+
 within-target-requires : (t : ℕ) → within-lts.Need-target-requires (within-calls t) (within-at t) within.Post
-within-target-requires t c κs = (search needs, search needs, search needs, first-fits (within-to _ _ _ _ _ _ _ (past-body _ (c .before .before .before .before .before .before .before .before .body .ensures) (c .before .before .before .before .before .beyond .ensures)) (past-both (c .before .before .before .before .before .before .before .before .body .ensures) (c .before .before .before .applies .ensures))) (c .before .before .before .before .before .before .before .before .before .before .before .before .pre .1 .3) (c .before .before .before .before .before .before .before .before .body .ensures) (c .before .before .before .applies .ensures), search needs, linked-below _ _ _ _ (c .before .before .before .before .before .before .before .before .before .before .before .before .pre .1 .5))
+within-target-requires t c κs =
+    let at-applies = c .before .before .before in
+    let at-body = at-applies .before .before .before .before .before in
+    let start = at-body .before .before .before .before in
+    let far = within-behind t at-applies in
+    (search needs, search needs, search needs, first-fits (within-to _ _ _ _ _ _ _ (far .0) (far .1)) (start .pre .1 .3) (at-body .body .ensures) (at-applies .applies .ensures), search needs, linked-below _ _ _ _ (start .pre .1 .5))
 
 within-returns : (t : ℕ) → within-lts.Need-returns (within-calls t) (within-at t) within.Post
-within-returns t c = three (within-to _ _ _ _ _ _ _ (past-body _ (c .before .before .before .before .before .before .before .before .before .before .before .body .ensures) (c .before .before .before .before .before .before .before .before .beyond .ensures)) (past-both (c .before .before .before .before .before .before .before .before .before .before .before .body .ensures) (c .before .before .before .before .before .before .applies .ensures))) (c .before .before .before .before .before .before .before .before .before .before .before .body .ensures) (c .before .before .before .before .before .before .applies .ensures) (c .before .before .target .ensures)
+within-returns t c =
+    let at-applies = c .before .before .before .before .before .before in
+    let at-body = at-applies .before .before .before .before .before in
+    let far = within-behind t at-applies in
+    three (within-to _ _ _ _ _ _ _ (far .0) (far .1)) (at-body .body .ensures) (at-applies .applies .ensures) (c .before .before .target .ensures)
 
 pub +body+tree+trees+within-spec : {M : Type 1} → statement M
 +body+tree+trees+within-spec = close μ-body μ-tree μ-trees μ-within (λ t. body-lts.spec (body-calls t)

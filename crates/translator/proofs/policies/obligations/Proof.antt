@@ -80,14 +80,16 @@ single-requires c κs =
 
 elder-requires-3 : tie.Need-elder-requires-3 Inv-loop μ-loop
 elder-requires-3 c κs =
-    let turn = c .before .before .before .before .before .before .before .before .before in
+    let at-single = c .before .before in
+    let turn = at-single .before .before .before .before .before .before .before in
     let start = turn .before .before .before .before .before .before in
     let p = piece-of (turn .before .loop .inv .row) (turn .loop-test .taken) in
     omega (arith, p .upto, p .inside, start .pre .1)
 
 loop-less-2 : tie.Need-loop-less-2 Inv-loop μ-loop
 loop-less-2 c =
-    let turn = c .before .before .before .before .before .before .before .before .before .before in
+    let at-single = c .before .before .before in
+    let turn = at-single .before .before .before .before .before .before .before in
     (piece-of (turn .before .loop .inv .row) (turn .loop-test .taken)) .upto
 
 loop-again-2 : tie.Need-loop-again-2 Inv-loop μ-loop
