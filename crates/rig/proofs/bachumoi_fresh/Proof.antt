@@ -17,7 +17,10 @@ returns-2 : tie.Need-returns-2
 returns-2 c = fresh-few-places _ _ (c .before .no-room2 .ensures) (c .refusal-number2 .ensures) (c .before .before .before .if1 .left) (c .before .before .if2 .taken)
 
 returns-3 : tie.Need-returns-3
-returns-3 c = fresh-put _ _ (c .before .before .before .before .before .before .before .before .before .if1 .left) (c .before .before .before .before .before .before .before .before .if2 .left) (c .before .before .before .before .before .before .before .fresh .ensures) (c .before .before .before .before .put-state .ensures .0) (c .before .before .before .before .put-state .ensures .1)
+returns-3 c =
+    let put = c .before .before .before .before in
+    let made = put .before .before .before in
+    fresh-put _ _ (made .before .before .if1 .left) (made .before .if2 .left) (made .fresh .ensures) (put .put-state .ensures .0) (put .put-state .ensures .1)
 
 pub bachumoi-fresh-spec : {M : Type 1} → statement M
 bachumoi-fresh-spec =

@@ -8,24 +8,28 @@ use Rattle.rig.proofs.bachumoi_translate.Tie as tie
 
 mul-result : tie.Need-mul-result
 mul-result c =
-    let a = c .before .before .before .before .before .before .before .before .before .args in
-    omega (arith, entries-few (a .book .now) (a .programme .now) (c .before .before .before .before .before .translate .ensures .0) (c .before .n .given .1))
+    let translated = c .before .before .before .before .before in
+    let a = translated .before .before .before .before .args in
+    omega (arith, entries-few (a .book .now) (a .programme .now) (translated .translate .ensures .0) (c .before .n .given .1))
 
 refusal-number-requires : tie.Need-refusal-number-requires
 refusal-number-requires c κs =
-    let a = c .before .before .before .before .before .before .before .before .before .args in
-    refused-translating (a .book .now) (a .programme .now) (c .before .before .before .before .before .translate .ensures .0) (c .before .why .given .1)
+    let translated = c .before .before .before .before .before in
+    let a = translated .before .before .before .before .args in
+    refused-translating (a .book .now) (a .programme .now) (translated .translate .ensures .0) (c .before .why .given .1)
 
 returns : tie.Need-returns
 returns c =
-    let a = c .before .before .before .before .before .before .before .before .before .args in
-    let w = c .before .before .before .before .before .translate .ensures in
+    let translated = c .before .before .before .before .before in
+    let a = translated .before .before .before .before .args in
+    let w = translated .translate .ensures in
     translates (a .book .now) (a .programme .now) (w .0) (sym (ap translatedNumber (c .before .n .given .1))) (w .1)
 
 returns-2 : tie.Need-returns-2
 returns-2 c =
-    let a = c .before .before .before .before .before .before .before .before .before .before .args in
-    let w = c .before .before .before .before .before .before .translate .ensures in
+    let translated = c .before .before .before .before .before .before in
+    let a = translated .before .before .before .before .args in
+    let w = translated .translate .ensures in
     translates (a .book .now) (a .programme .now) (w .0) (c .refusal-number .ensures ∙ sym (ap translatedNumber (c .before .before .why .given .1))) (w .1)
 
 pub bachumoi-translate-spec : {M : Type 1} → statement M

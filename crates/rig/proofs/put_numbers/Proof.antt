@@ -10,18 +10,23 @@ part-copy-numbers-end c = simp length-set (omega arith)
 
 part-copy-numbers-end-2 : tie.Need-part-copy-numbers-end-2
 part-copy-numbers-end-2 c =
-    let a = c .before .before .before .before .before .before .before .args in
-    rw (put-frames (a .numbers .now) (a .head) (a .frames .now) (omega arith) (c .before .before .before .before .before .copy-numbers-arg .given .0) (c .before .before .before .copy-numbers .ensures)) (omega arith)
+    let framed = c .before .before .before in
+    let a = framed .before .before .before .before .args in
+    rw (put-frames (a .numbers .now) (a .head) (a .frames .now) (omega arith) (framed .before .before .copy-numbers-arg .given .0) (framed .copy-numbers .ensures)) (omega arith)
 
 same-length : tie.Need-same-length
 same-length c =
-    let a = c .before .before .before .before .before .before .before .before .before .before .before .args in
-    put-length (a .numbers .now) (a .head) (a .frames .now) (omega arith) (c .before .before .before .before .before .before .before .before .before .copy-numbers-arg .given .0) (a .levels .now) (c .before .before .before .before .copy-numbers-arg3 .given .0) (c .before .before .before .before .before .before .before .copy-numbers .ensures) (c .before .before .copy-numbers2 .ensures)
+    let levelled = c .before .before in
+    let framed = levelled .before .before .before .before .before in
+    let a = framed .before .before .before .before .args in
+    put-length (a .numbers .now) (a .head) (a .frames .now) (omega arith) (framed .before .before .copy-numbers-arg .given .0) (a .levels .now) (levelled .before .before .copy-numbers-arg3 .given .0) (framed .copy-numbers .ensures) (levelled .copy-numbers2 .ensures)
 
 returns : tie.Need-returns
 returns c =
-    let a = c .before .before .before .before .before .before .before .before .before .before .before .args in
-    put-numbers (a .numbers .now) (a .head) (a .frames .now) (omega arith) (c .before .before .before .before .before .before .before .before .before .copy-numbers-arg .given .0) (a .levels .now) (c .before .before .before .before .copy-numbers-arg3 .given .0) (c .before .before .before .before .before .before .before .copy-numbers .ensures) (c .before .before .copy-numbers2 .ensures)
+    let levelled = c .before .before in
+    let framed = levelled .before .before .before .before .before in
+    let a = framed .before .before .before .before .args in
+    put-numbers (a .numbers .now) (a .head) (a .frames .now) (omega arith) (framed .before .before .copy-numbers-arg .given .0) (a .levels .now) (levelled .before .before .copy-numbers-arg3 .given .0) (framed .copy-numbers .ensures) (levelled .copy-numbers2 .ensures)
 
 pub put-numbers-spec : {M : Type 1} → statement M
 put-numbers-spec =

@@ -11,10 +11,12 @@ returns-2 c = few-places _ _ (c .before .before .if1 .left) (c .before .if2 .tak
 
 returns-3 : tie.Need-returns-3
 returns-3 c =
-    held _ _ (c .before .before .before .before .before .before .before .before .before .before .before .before .before .before .if1 .left)
-    (c .before .before .before .before .before .before .before .before .before .before .before .before .before .if2 .left)
-    (c .before .before .before .before .before .before .before .before .before .before .copy-numbers .ensures)
-    (c .before .before .before .before .before .before .copy-numbers2 .ensures)
+    let levelled = c .before .before .before .before .before .before in
+    let framed = levelled .before .before .before .before in
+    held _ _ (framed .before .before .before .before .if1 .left)
+    (framed .before .before .before .if2 .left)
+    (framed .copy-numbers .ensures)
+    (levelled .copy-numbers2 .ensures)
     (c .before .before .copy-places .ensures)
 
 pub state-in-spec : {M : Type 1} → statement M
