@@ -47,14 +47,12 @@ same-length-2 c = search needs
 
 returns : tie.Need-returns
 returns c =
-    let args = c .before .before .before .before .before .before .before .before .before .before .before .before .before .before .before .before .before .before .args in
-    let pre = c .before .before .before .before .before .before .before .before .before .before .before .before .before .before .before .before .before .before .pre in
-    let bytes = c .before .before .before .before .before .before .before .before .before .before .before .before .before .before .before .before .before .shared-slice-known in
-    let read = c .before .before .before .before .before .before .before .before .before .before .before .before .before .read-book in
-    let m = c .before .before .before .before .before .before .before .before .before .m in
-    let write = c .before .before .before .before .before .write-book in
-    let n = c .before .n in
-    (omega (arith, write-fits _ _ _ (write .ensures .0) (n .given .1)), printed-again (args .text .now) _ _ _ (λ i. bytes .given i .fits) (pre .1) (read .ensures .0) (read .ensures .1) (m .given .1) (write .ensures .0) _ (pre .0) (write .ensures .1) (n .given .1))
+    let written = c .before .before .before .before .before in
+    let accepted = written .before .before .before .before in
+    let read = accepted .before .before .before .before in
+    let start = read .before .before .before .before .before in
+    let bytes = read .before .before .before .before .shared-slice-known in
+    (omega (arith, write-fits _ _ _ (written .write-book .ensures .0) (c .before .n .given .1)), printed-again (start .args .text .now) _ _ _ (λ i. bytes .given i .fits) (start .pre .1) (read .read-book .ensures .0) (read .read-book .ensures .1) (accepted .m .given .1) (written .write-book .ensures .0) _ (start .pre .0) (written .write-book .ensures .1) (c .before .n .given .1))
 
 same-length-3 : tie.Need-same-length-3
 same-length-3 c = search needs
@@ -64,14 +62,13 @@ same-length-4 c = search needs
 
 returns-2 : tie.Need-returns-2
 returns-2 c =
-    let args = c .before .before .before .before .before .before .before .before .before .before .before .before .before .before .before .before .before .before .before .before .before .before .args in
-    let pre = c .before .before .before .before .before .before .before .before .before .before .before .before .before .before .before .before .before .before .before .before .before .before .pre in
-    let bytes = c .before .before .before .before .before .before .before .before .before .before .before .before .before .before .before .before .before .before .before .before .before .shared-slice-known in
-    let read = c .before .before .before .before .before .before .before .before .before .before .before .before .before .before .before .before .before .read-book in
-    let m = c .before .before .before .before .before .before .before .before .before .before .before .before .before .m in
-    let write = c .before .before .before .before .before .before .before .before .before .write-book in
-    let refused = c .before .before .before .before .before .refusal in
-    absurd (never-refused (args .text .now) _ (args .out .now) _ (λ i. bytes .given i .fits) (pre .1) (read .ensures .0) (read .ensures .1) (m .given .1) (write .ensures .0) _ (refused .given .1))
+    let refused = c .before .before .before .before .before in
+    let written = refused .before .before .before .before in
+    let accepted = written .before .before .before .before in
+    let read = accepted .before .before .before .before in
+    let start = read .before .before .before .before .before in
+    let bytes = read .before .before .before .before .shared-slice-known in
+    absurd (never-refused (start .args .text .now) _ (start .args .out .now) _ (λ i. bytes .given i .fits) (start .pre .1) (read .read-book .ensures .0) (read .read-book .ensures .1) (accepted .m .given .1) (written .write-book .ensures .0) _ (refused .refusal .given .1))
 
 same-length-5 : tie.Need-same-length-5
 same-length-5 c = search needs
@@ -81,12 +78,13 @@ same-length-6 c = search needs
 
 returns-3 : tie.Need-returns-3
 returns-3 c =
-    let args = c .before .before .before .before .before .before .before .before .before .before .before .before .before .before .args in
-    let pre = c .before .before .before .before .before .before .before .before .before .before .before .before .before .before .pre in
-    let read = c .before .before .before .before .before .before .before .before .before .read-book in
-    let refused = c .before .before .before .before .before .refusal2 in
-    let put = c .before .before .refusal-line2 in
-    (omega (arith, put .ensures .0, places-within (refusalLine (refused .given .0 .0)) (length (args .out .now))), rw (put .ensures .0, put .ensures .1) (put-found (refusalLine (refused .given .0 .0)) (args .out .now) (omega (arith, length-refusal (refused .given .0 .0))) ∙ sym (printed-refusal _ _ _ (pre .0) (read .ensures .0) (refused .given .1))))
+    let put = c .before .before in
+    let refused = put .before .before .before in
+    let read = refused .before .before .before .before in
+    let start = read .before .before .before .before .before in
+    let line = refusalLine (refused .refusal2 .given .0 .0) in
+    let out = start .args .out .now in
+    (omega (arith, put .refusal-line2 .ensures .0, places-within line (length out)), rw (put .refusal-line2 .ensures .0, put .refusal-line2 .ensures .1) (put-found line out (omega (arith, length-refusal (refused .refusal2 .given .0 .0))) ∙ sym (printed-refusal _ _ _ (start .pre .0) (read .read-book .ensures .0) (refused .refusal2 .given .1))))
 
 pub rewritten-spec : {M : Type 1} → statement M
 rewritten-spec =
