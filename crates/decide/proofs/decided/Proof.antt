@@ -21,15 +21,14 @@ enum-known-m c = search needs
 
 slice-reshare-prefix-outcome-line : tie.Need-slice-reshare-prefix-outcome-line
 slice-reshare-prefix-outcome-line c =
-    let read-book = c .before .before .before .before .before .before .before .before .before .before .before .before .read-book in
-    let n = c .before .before .before .before .before .before .before .before .n in
-    omega (arith, read-fits _ _ _ _ (read-book .ensures .0) (n .given .1))
+    let records = c .before .before .before .before .before .before .before .before in
+    omega (arith, read-fits _ _ _ _ (records .before .before .before .before .read-book .ensures .0) (records .n .given .1))
 
 slice-aggregate-outcome-line : tie.Need-slice-aggregate-outcome-line
 slice-aggregate-outcome-line c =
-    let read-book = c .before .before .before .before .before .before .before .before .before .before .before .before .before .read-book in
-    let n = c .before .before .before .before .before .before .before .before .before .n in
-    simp length-take (omega (arith, read-fits _ _ _ _ (read-book .ensures .0) (n .given .1)))
+    let requested = c .before .before .before .before .before .before in
+    let records = requested .before .before .before in
+    simp length-take (omega (arith, read-fits _ _ _ _ (records .before .before .before .before .read-book .ensures .0) (records .n .given .1)))
 
 slice-reshare-prefix-outcome-line-2 : tie.Need-slice-reshare-prefix-outcome-line-2
 slice-reshare-prefix-outcome-line-2 c = omega (arith, read-fits _ _ _ _ (c .before .before .before .before .before .before .read-request .ensures .0) (c .before .before .m .given .1))
@@ -66,14 +65,14 @@ same-length-4 c = search needs
 
 returns : tie.Need-returns
 returns c =
-    let args = c .before .before .before .before .before .before .before .before .before .before .before .before .before .before .before .before .before .before .before .before .before .before .before .before .before .before .before .before .before .args in
-    let pre = c .before .before .before .before .before .before .before .before .before .before .before .before .before .before .before .before .before .before .before .before .before .before .before .before .before .before .before .before .before .pre in
-    let read-book = c .before .before .before .before .before .before .before .before .before .before .before .before .before .before .before .before .before .before .before .before .before .read-book in
-    let n = c .before .before .before .before .before .before .before .before .before .before .before .before .before .before .before .before .before .n in
-    let read-request = c .before .before .before .before .before .before .before .before .before .before .before .before .before .before .read-request in
-    let m = c .before .before .before .before .before .before .before .before .before .before .m in
-    let outcome-line = c .before .before .before .before .outcome-line in
-    (outcome-line .ensures .0, outcome-line .ensures .1 ∙ printed-decided (args .book .now) (args .request .now) (args .records .now) (args .entries .now) (pre .0) (read-book .ensures .0) _ (n .given .1) (read-book .ensures .1) (pre .1) (read-request .ensures .0) _ (m .given .1) (read-request .ensures .1))
+    let told = c .before .before .before .before in
+    let entries = told .before .before .before .before .before .before in
+    let requested = entries .before .before .before .before in
+    let records = requested .before .before .before in
+    let read = records .before .before .before .before in
+    let start = read .before .before .before .before .before .before .before .before in
+    let a = start .args in
+    (told .outcome-line .ensures .0, told .outcome-line .ensures .1 ∙ printed-decided (a .book .now) (a .request .now) (a .records .now) (a .entries .now) (start .pre .0) (read .read-book .ensures .0) _ (records .n .given .1) (read .read-book .ensures .1) (start .pre .1) (requested .read-request .ensures .0) _ (entries .m .given .1) (requested .read-request .ensures .1))
 
 same-length-5 : tie.Need-same-length-5
 same-length-5 c = search needs
@@ -86,14 +85,14 @@ same-length-7 c = search needs
 
 returns-2 : tie.Need-returns-2
 returns-2 c =
-    let args = c .before .before .before .before .before .before .before .before .before .before .before .before .before .before .before .before .before .before .before .before .before .before .before .before .args in
-    let pre = c .before .before .before .before .before .before .before .before .before .before .before .before .before .before .before .before .before .before .before .before .before .before .before .before .pre in
-    let read-book = c .before .before .before .before .before .before .before .before .before .before .before .before .before .before .before .before .read-book in
-    let n = c .before .before .before .before .before .before .before .before .before .before .before .before .n in
-    let read-request = c .before .before .before .before .before .before .before .before .before .read-request in
-    let refused = c .before .before .before .before .before .refusal in
-    let put = c .before .before .refusal-line in
-    refusal-stands _ (args .out .now) (pre .3) (put .ensures .0) (put .ensures .1) (printed-request (args .book .now) (args .request .now) (args .records .now) (args .entries .now) (pre .0) (read-book .ensures .0) _ (n .given .1) (read-book .ensures .1) (pre .1) (read-request .ensures .0) _ (refused .given .1))
+    let put = c .before .before in
+    let refused = put .before .before .before in
+    let requested = refused .before .before .before .before in
+    let records = requested .before .before .before in
+    let read = records .before .before .before .before in
+    let start = read .before .before .before .before .before .before .before .before in
+    let a = start .args in
+    refusal-stands _ (a .out .now) (start .pre .3) (put .refusal-line .ensures .0) (put .refusal-line .ensures .1) (printed-request (a .book .now) (a .request .now) (a .records .now) (a .entries .now) (start .pre .0) (read .read-book .ensures .0) _ (records .n .given .1) (read .read-book .ensures .1) (start .pre .1) (requested .read-request .ensures .0) _ (refused .refusal .given .1))
 
 same-length-8 : tie.Need-same-length-8
 same-length-8 c = search needs
@@ -103,12 +102,12 @@ same-length-9 c = search needs
 
 returns-3 : tie.Need-returns-3
 returns-3 c =
-    let args = c .before .before .before .before .before .before .before .before .before .before .before .before .before .before .before .before .before .args in
-    let pre = c .before .before .before .before .before .before .before .before .before .before .before .before .before .before .before .before .before .pre in
-    let read-book = c .before .before .before .before .before .before .before .before .before .read-book in
-    let refused = c .before .before .before .before .before .refusal2 in
-    let put = c .before .before .refusal-line2 in
-    refusal-stands _ (args .out .now) (pre .3) (put .ensures .0) (put .ensures .1) (printed-book (args .book .now) (args .request .now) (args .records .now) (args .entries .now) (pre .0) (read-book .ensures .0) _ (refused .given .1))
+    let put = c .before .before in
+    let refused = put .before .before .before in
+    let read = refused .before .before .before .before in
+    let start = read .before .before .before .before .before .before .before .before in
+    let a = start .args in
+    refusal-stands _ (a .out .now) (start .pre .3) (put .refusal-line2 .ensures .0) (put .refusal-line2 .ensures .1) (printed-book (a .book .now) (a .request .now) (a .records .now) (a .entries .now) (start .pre .0) (read .read-book .ensures .0) _ (refused .refusal2 .given .1))
 
 pub decided-spec : {M : Type 1} → statement M
 decided-spec =

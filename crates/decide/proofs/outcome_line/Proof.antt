@@ -29,13 +29,13 @@ same-length-2 c = search needs
 
 returns : tie.Need-returns
 returns c =
-    let args = c .before .before .before .before .before .before .before .before .before .before .before .before .before .before .before .before .before .args in
-    let pre = c .before .before .before .before .before .before .before .before .before .before .before .before .before .before .before .before .before .pre in
-    let decide = c .before .before .before .before .before .before .before .before .before .before .before .decide in
-    let decision = c .before .before .before .before .before .before .before .decision in
-    let number = c .before .before .before .before .before .number in
-    let decision-line = c .before .before .decision-line in
-    decided-stands (args .book .now) (args .request .now) (args .places .now) (pre .0) (decide .ensures .0) (decide .ensures .1) _ _ (args .out .now) (decision .given .1) (number .ensures .0) (decide .kept .1 .1 .0) (pre .1) (decision-line .ensures .0) (decision-line .ensures .1)
+    let put = c .before .before in
+    let numbered = put .before .before .before in
+    let decided = numbered .before .before in
+    let outcome = decided .before .before .before .before in
+    let start = outcome .before .before .before .before .before .before in
+    let a = start .args in
+    decided-stands (a .book .now) (a .request .now) (a .places .now) (start .pre .0) (outcome .decide .ensures .0) (outcome .decide .ensures .1) _ _ (a .out .now) (decided .decision .given .1) (numbered .number .ensures .0) (outcome .decide .kept .1 .1 .0) (start .pre .1) (put .decision-line .ensures .0) (put .decision-line .ensures .1)
 
 same-length-3 : tie.Need-same-length-3
 same-length-3 c = search needs
@@ -45,12 +45,12 @@ same-length-4 c = search needs
 
 returns-2 : tie.Need-returns-2
 returns-2 c =
-    let args = c .before .before .before .before .before .before .before .before .before .before .before .before .before .before .before .args in
-    let pre = c .before .before .before .before .before .before .before .before .before .before .before .before .before .before .before .pre in
-    let decide = c .before .before .before .before .before .before .before .before .before .decide in
-    let refused = c .before .before .before .before .before .refusal in
-    let put = c .before .before .refusal-line in
-    refusal-stands _ (args .out .now) (pre .1) (put .ensures .0) (put .ensures .1) (decided-refused (args .book .now) (args .request .now) (args .places .now) (pre .0) (decide .ensures .0) (decide .ensures .1) _ (refused .given .1))
+    let put = c .before .before in
+    let refused = put .before .before .before in
+    let outcome = refused .before .before .before .before in
+    let start = outcome .before .before .before .before .before .before in
+    let a = start .args in
+    refusal-stands _ (a .out .now) (start .pre .1) (put .refusal-line .ensures .0) (put .refusal-line .ensures .1) (decided-refused (a .book .now) (a .request .now) (a .places .now) (start .pre .0) (outcome .decide .ensures .0) (outcome .decide .ensures .1) _ (refused .refusal .given .1))
 
 pub outcome-line-spec : {M : Type 1} → statement M
 outcome-line-spec =
