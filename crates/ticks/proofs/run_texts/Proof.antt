@@ -25,15 +25,13 @@ enum-known-m c = search needs
 
 array-share-prefix-records : tie.Need-array-share-prefix-records
 array-share-prefix-records c =
-    let read-book = c .before .before .before .before .before .before .before .before .before .before .read-book in
-    let n = c .before .before .before .before .before .before .before .n in
-    omega (arith, read-fits _ _ _ _ (read-book .ensures .0) (n .given .1))
+    let records = c .before .before .before .before .before .before .before in
+    omega (arith, read-fits _ _ _ _ (records .before .before .before .read-book .ensures .0) (records .n .given .1))
 
 slice-aggregate-run-records : tie.Need-slice-aggregate-run-records
 slice-aggregate-run-records c =
-    let read-book = c .before .before .before .before .before .before .before .before .before .before .before .read-book in
-    let n = c .before .before .before .before .before .before .before .before .n in
-    simp length-take (omega (arith, read-fits _ _ _ _ (read-book .ensures .0) (n .given .1)))
+    let records = c .before .before .before .before .before .before .before .before in
+    simp length-take (omega (arith, read-fits _ _ _ _ (records .before .before .before .read-book .ensures .0) (records .n .given .1)))
 
 array-share-prefix-entries : tie.Need-array-share-prefix-entries
 array-share-prefix-entries c = omega (arith, read-fits _ _ _ _ (c .before .before .before .before .before .read-request .ensures .0) (c .before .before .m .given .1))

@@ -43,23 +43,21 @@ same-length-2 c = search needs
 
 returns-2 : tie.Need-returns-2
 returns-2 c =
-    let args = c .before .before .before .before .before .before .before .before .before .before .args in
-    let pre = c .before .before .before .before .before .before .before .before .before .before .pre in
-    let answer = c .before .before .before .before .before .before .answer in
-    let number = c .before .before .before .before .number in
-    let decision-line = c .before .before .decision-line in
-    finished-put (args .out .now) (args .places .now) (pre .1) (pre .0) _ _ (answer .given .1) (number .ensures .0) (decision-line .ensures .0) (decision-line .ensures .1)
+    let put = c .before .before in
+    let numbered = put .before .before in
+    let answered = numbered .before .before in
+    let start = answered .before .before .before .before in
+    finished-put (start .args .out .now) (start .args .places .now) (start .pre .1) (start .pre .0) _ _ (answered .answer .given .1) (numbered .number .ensures .0) (put .decision-line .ensures .0) (put .decision-line .ensures .1)
 
 same-length-3 : tie.Need-same-length-3
 same-length-3 c = search needs
 
 returns-3 : tie.Need-returns-3
 returns-3 c =
-    let args = c .before .before .before .before .before .before .before .before .before .args in
-    let pre = c .before .before .before .before .before .before .before .before .before .pre in
-    let answer2 = c .before .before .before .before .before .answer2 in
-    let refusal-line = c .before .before .refusal-line in
-    refused-put (args .out .now) (args .places .now) (pre .1) (pre .0) _ (answer2 .given .1) (refusal-line .ensures .0) (refusal-line .ensures .1)
+    let put = c .before .before in
+    let answered = put .before .before .before in
+    let start = answered .before .before .before .before in
+    refused-put (start .args .out .now) (start .args .places .now) (start .pre .1) (start .pre .0) _ (answered .answer2 .given .1) (put .refusal-line .ensures .0) (put .refusal-line .ensures .1)
 
 pub answer-line-spec : {M : Type 1} → statement M
 answer-line-spec =
