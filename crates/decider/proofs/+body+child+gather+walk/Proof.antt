@@ -191,10 +191,11 @@ walk-child-requires t c κs =
 walk-settle-requires : (t : ℕ) → walk-lts.Need-settle-requires (walk-calls t) (walk-at t) walk.Post walk-Inv-loop walk-μ-loop
 walk-settle-requires t c κs =
     let decided = c .before .before .before .before .before .before .before .before in
-    let turn = decided .before .before .before .before .before in
+    let spanned = decided .before .before .before .before in
+    let turn = spanned .before in
     let start = turn .before .before .before .before .before .before in
     let sofar = turn .before .loop .inv .2 in
-    (omega (arith, sofar .holds .count), omega (arith, decided .child .ensures .puts .holds .count), omega (arith, decided .child .ensures .puts .within, sofar .room, sofar .kept, decided .child .kept .1 .1 .1 .1 .1 .0, start .pre .1 .1, deep-is _ _ _ (turn .loop-test .taken) (decided .before .before .before .before .span-in .ensures .0)))
+    (omega (arith, sofar .holds .count), omega (arith, decided .child .ensures .puts .holds .count), omega (arith, decided .child .ensures .puts .within, sofar .room, sofar .kept, decided .child .kept .1 .1 .1 .1 .1 .0, start .pre .1 .1, deep-is _ _ _ (turn .loop-test .taken) (spanned .span-in .ensures .0)))
 
 walk-same-length : (t : ℕ) → walk-lts.Need-same-length (walk-calls t) (walk-at t) walk.Post walk-Inv-loop walk-μ-loop
 walk-same-length t c =
@@ -208,20 +209,26 @@ walk-returns t c =
     let settled = c .before .before .before .before in
     let stood = settled .before .before .before .before .before .before in
     let decided = stood .before .before .before in
-    let turn = decided .before .before .before .before .before in
+    let spanned = decided .before .before .before .before in
+    let turn = spanned .before in
     let start = turn .before .before .before .before .before .before in
     let sofar = turn .before .loop .inv .2 in
-    walk-stop (start .pre .1 .3) sofar (turn .loop-test .taken) (decided .before .before .before .before .span-in .ensures .0) (decided .before .before .before .is-party .ensures) (not-false _ (decided .before .before .if1 .left)) (decided .child .ensures) (decided .child .kept .1 .1 .1 .1 .1 .0) (stood .outcome .ensures) (settled .before .before .before .before .before .take-in .ensures) (settled .before .before .before .before .outcome2 .ensures) (settled .before .before .stay .ensures) (settled .before .stay2 .ensures) (c .before .settles .ensures) (settled .settle .ensures) (omega (arith, start .pre .1 .1)) (omega (arith, sofar .room, sofar .kept, start .pre .1 .1)) (c .if2 .taken)
+    walk-stop (start .pre .1 .3) sofar (turn .loop-test .taken) (spanned .span-in .ensures .0) (decided .before .before .before .is-party .ensures) (not-false _ (decided .before .before .if1 .left)) (decided .child .ensures) (decided .child .kept .1 .1 .1 .1 .1 .0) (stood .outcome .ensures) (settled .before .before .before .before .before .take-in .ensures) (settled .before .before .before .before .outcome2 .ensures) (settled .before .before .stay .ensures) (settled .before .stay2 .ensures) (c .before .settles .ensures) (settled .settle .ensures) (omega (arith, start .pre .1 .1)) (omega (arith, sofar .room, sofar .kept, start .pre .1 .1)) (c .if2 .taken)
 
 walk-loop-again-2 : (t : ℕ) → walk-lts.Need-loop-again-2 (walk-calls t) (walk-at t) walk.Post walk-Inv-loop walk-μ-loop
 walk-loop-again-2 t c =
     let settled = c .before .before .before .before in
     let stood = settled .before .before .before .before .before .before in
     let decided = stood .before .before .before in
-    let turn = decided .before .before .before .before .before in
+    let spanned = decided .before .before .before .before in
+    let turn = spanned .before in
     let start = turn .before .before .before .before .before .before in
-    let sofar = turn .before .loop .inv .2 in
-    (omega (arith, turn .before .loop .inv .0, decided .before .before .before .before .span-in .ensures .1 .1), omega (arith, turn .before .loop .inv .1), walk-turn (start .pre .1 .3) sofar (turn .loop-test .taken) (decided .before .before .before .before .span-in .ensures .0) (decided .before .before .before .is-party .ensures) (not-false _ (decided .before .before .if1 .left)) (decided .child .ensures) (decided .child .kept .1 .1 .1 .1 .1 .0) (stood .outcome .ensures) (settled .before .before .before .before .before .take-in .ensures) (settled .before .before .before .before .outcome2 .ensures) (settled .before .before .stay .ensures) (settled .before .stay2 .ensures) (c .before .settles .ensures) (settled .settle .ensures) (omega (arith, start .pre .1 .1)) (omega (arith, sofar .room, sofar .kept, start .pre .1 .1)) (settled .settle .kept .0) (c .if2 .left), omega (arith, turn .before .loop .inv .3, nest-rest _ _ _ (turn .loop-test .taken) (decided .before .before .before .before .span-in .ensures .0)))
+    let sofar = turn .before .loop .inv .2 in (
+      omega (arith, turn .before .loop .inv .0, spanned .span-in .ensures .1 .1),
+      omega (arith, turn .before .loop .inv .1),
+      walk-turn (start .pre .1 .3) sofar (turn .loop-test .taken) (spanned .span-in .ensures .0) (decided .before .before .before .is-party .ensures) (not-false _ (decided .before .before .if1 .left)) (decided .child .ensures) (decided .child .kept .1 .1 .1 .1 .1 .0) (stood .outcome .ensures) (settled .before .before .before .before .before .take-in .ensures) (settled .before .before .before .before .outcome2 .ensures) (settled .before .before .stay .ensures) (settled .before .stay2 .ensures) (c .before .settles .ensures) (settled .settle .ensures) (omega (arith, start .pre .1 .1)) (omega (arith, sofar .room, sofar .kept, start .pre .1 .1)) (settled .settle .kept .0) (c .if2 .left),
+      omega (arith, turn .before .loop .inv .3, nest-rest _ _ _ (turn .loop-test .taken) (spanned .span-in .ensures .0)),
+    )
 
 walk-same-length-2 : (t : ℕ) → walk-lts.Need-same-length-2 (walk-calls t) (walk-at t) walk.Post walk-Inv-loop walk-μ-loop
 walk-same-length-2 t c = c .before .before .loop .inv .2 .kept
