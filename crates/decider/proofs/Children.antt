@@ -5,6 +5,7 @@ use mathlib.Core.List.{List, [], _∷_, _++_, append-nil}
 use Prim.Native.Nat.{ℕ, _+_, _-_, _≤_, _<_}
 use Rattle.record.specs.Choose.{if}
 use Rattle.record.specs.Forest.{forest, spanIn}
+use Rattle.record.proofs.Forests.{forest-none, forest-more}
 use Rattle.meaning.specs.Logic.{some}
 use Rattle.meaning.specs.Policy.{Target, Rule, Obligation, OverRules, OverPolicies, Tree, policy, set, Trees}
 use Rattle.meaning.specs.Meaning.{Bags, targetOf, decisionOf, Child, is, unsure, keep, applying, combine, stops, hands, handed, ownOf, binding, nodeOf, overRules, overPolicies, ruleOf, ruleChild, ruleChildren, childOf, childrenOf}
@@ -18,7 +19,6 @@ use Rattle.meaning.specs.declared.Decision.the-variants.{Permit, Deny, NotAppli
 use Rattle.meaning.specs.declared.Algorithm.{Algorithm}
 use Rattle.meaning.specs.declared.Algorithm.the-variants.{OnlyOne}
 use Rattle.decider.specs.Inside.{treeFrom, childAt, childrenIn, upOf, upIn, upAt}
-use Rattle.decider.proofs.Rooms.{ends, begins}
 use Rattle.decider.proofs.Kept.{bind-none}
 
 -- bindings
@@ -125,16 +125,16 @@ module _ (b : List ℕ) (g : Bags) (i s : ℕ) where
 -- the children that stand among `left` records from i on
 pub children-none : (b : List ℕ) (g : Bags) (i left : ℕ) → left ≤ 0 → childrenIn b g i left ≡ []
 unfolding childrenIn treesIn childrenOf
-children-none b g i left h = rw (ends b i left h)
+children-none b g i left h = rw (forest-none b i left h)
 
 module _ (b : List ℕ) (g : Bags) (i left : ℕ) {s : ℕ} (h : 0 < left) (e : s ≡ spanIn b i left) where
   pub children-skip : isParty b i ≡ false → childrenIn b g i left ≡ childrenIn b g (i + s) (left - s)
   unfolding childrenIn treesIn
-  children-skip q = rw (begins b i left h e, q)
+  children-skip q = rw (forest-more b i left h e, q)
 
   pub children-more : isParty b i ≡ true → childrenIn b g i left ≡ childAt b g i s ∷ childrenIn b g (i + s) (left - s)
   unfolding childrenIn treesIn childrenOf childAt treeFrom
-  children-more q = rw (begins b i left h e, q)
+  children-more q = rw (forest-more b i left h e, q)
 
 -- only-one: children that do not apply hand up nothing
 not-said : (x : Effect) (xs ys : List ℕ) → if (is NotApplicable (decisionOf x)) xs [] ++ ys ≡ ys

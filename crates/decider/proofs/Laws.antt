@@ -11,6 +11,7 @@ use Rattle.record.specs.Choose.{if, both, either}
 use Rattle.record.specs.Bytes.{size, byteOf, bigOf}
 use Rattle.record.specs.Forest.{spanIn, forest, height}
 use Rattle.record.proofs.Choose.{both-left}
+use Rattle.record.proofs.Forests.{forest-none, forest-more}
 use Rattle.meaning.specs.Numbers.{numberOf}
 use Rattle.meaning.specs.Logic.{isUnknown, some}
 use Rattle.meaning.specs.Meaning.{Bags, targetOf, Child, said, owed, is, unsure, keep, applying, decisionOf, combine, ownOf, binding, overRules, overPolicies, ruleChildren}
@@ -29,7 +30,7 @@ use Rattle.decider.specs.Inside.{childAt, childrenIn, isDue, keeps, upOf
 use Rattle.decider.specs.declared.Pick.{Pick}
 use Rattle.decider.specs.declared.Pick.the-variants.{Nobody, One, Many}
 use Rattle.decider.proofs.Stack.{holds-none, holds-both, holds-store, settled as stays, settled-within}
-use Rattle.decider.proofs.Rooms.{ends, begins, direct-is, deep-is, nest-kids, nest-rest, rooms}
+use Rattle.decider.proofs.Rooms.{direct-is, deep-is, nest-kids, nest-rest, rooms}
 use Rattle.decider.proofs.Kept.{Standing, stand-start, stand-turn, stand-end}
 use Rattle.decider.proofs.Children.{at-target, at-effect, at-binds, at-duties, set-is, policy-is, children-none, children-skip, children-more, single-is}
 
@@ -67,7 +68,7 @@ if-cons false x ys = refl
 module _ (b : List ℕ) (d : Decision) (i left : ℕ) {s : ℕ} (h : 0 < left) (e : s ≡ spanIn b i left) where
   own-is : ownOf d (obligationsIn b (forest b i left)) ≡ if (isDue b i d) (bigOf b (i * size + 6) 2 ∷ []) [] ++ ownOf d (obligationsIn b (forest b (i + s) (left - s)))
   unfolding ownOf obligationsIn isDue
-  own-is = rw (begins b i left h e) (go (isKind b i 8))
+  own-is = rw (forest-more b i left h e) (go (isKind b i 8))
     where
       go : (k : Bool) → ownOf d (if k (obligationAt b i ∷ obligationsIn b (forest b (i + s) (left - s))) (obligationsIn b (forest b (i + s) (left - s))))
           ≡ if (both k (is d (decisionOf (effectOf (choiceAt b i))))) (bigOf b (i * size + 6) 2 ∷ []) [] ++ ownOf d (obligationsIn b (forest b (i + s) (left - s)))
@@ -91,7 +92,7 @@ put-start b d l n from count = record { xs = []; holds = holds-none l n; kept = 
 module _ {b : List ℕ} {d : Decision} {l : List ℕ} {n from count i left : ℕ} {o : List ℕ} {m : ℕ} (w : Putting b d l n from count i left o m) where
   pub put-end : left ≤ 0 → Put l n (ownOf d (obligationsIn b (forest b from count))) (directOf b (forest b from count)) o m
   unfolding ownOf obligationsIn
-  put-end h = rw (← (rw (ends b i left h, append-nil) at (w .goes))) (record { holds = w .holds; within = omega (arith, w .room) })
+  put-end h = rw (← (rw (forest-none b i left h, append-nil) at (w .goes))) (record { holds = w .holds; within = omega (arith, w .room) })
 
   module _ {s : ℕ} {q : Bool} (h : 0 < left) (e : s ≡ spanIn b i left) (eq : q ≡ isDue b i d) where
     pub put-room : q ≡ true → m + 1 + directOf b (forest b (i + s) (left - s)) ≤ n + directOf b (forest b from count)

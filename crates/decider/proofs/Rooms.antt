@@ -13,28 +13,22 @@ use Rattle.meaning.specs.Reading.{isKind}
 use Rattle.decider.specs.Inside.{directOf, roomOf, deepOf}
 
 -- how a forest begins
-pub ends : (b : List ℕ) (i left : ℕ) → left ≤ 0 → forest b i left ≡ none
-ends b i left h = forest-none b i left (omega arith)
-
 module _ (b : List ℕ) (i left : ℕ) {s : ℕ} (h : 0 < left) (e : s ≡ spanIn b i left) where
-  pub begins : forest b i left ≡ node i (forest b (i + 1) (s - 1)) (forest b (i + s) (left - s))
-  begins = forest-more b i left (λ z. omega arith) e
-
   pub direct-is : directOf b (forest b i left) ≡ if (isKind b i 8) 1 0 + directOf b (forest b (i + s) (left - s))
   unfolding directOf
-  direct-is = rw begins
+  direct-is = rw (forest-more b i left h e)
 
   pub deep-is : deepOf b (forest b i left) ≡ roomOf b (forest b (i + 1) (s - 1)) + deepOf b (forest b (i + s) (left - s))
   unfolding deepOf
-  deep-is = rw begins
+  deep-is = rw (forest-more b i left h e)
 
   room-is : roomOf b (forest b i left) ≡ if (isKind b i 8) 1 0 + roomOf b (forest b (i + 1) (s - 1)) + roomOf b (forest b (i + s) (left - s))
   unfolding roomOf
-  room-is = rw begins
+  room-is = rw (forest-more b i left h e)
 
   nest-is : height (forest b i left) ≡ max (suc (height (forest b (i + 1) (s - 1)))) (height (forest b (i + s) (left - s)))
   unfolding height
-  nest-is = rw begins
+  nest-is = rw (forest-more b i left h e)
 
   pub nest-kids : height (forest b (i + 1) (s - 1)) < height (forest b i left)
   nest-kids = omega (arith, nest-is)
@@ -54,8 +48,8 @@ rooms b i left = room-split b (forest b i left)
 -- every record stands in the forest once
 count-fuel : (f : ℕ) (b : List ℕ) (i left : ℕ) → left ≤ f → obligationsOf b i + roomOf b (forest b i left) ≡ obligationsOf b (i + left)
 unfolding obligationsOf countBelow roomOf
-count-fuel zero b i zero h = let a : i + 0 ≡ i = omega arith in rw (ends b i 0 (omega arith), a) (omega arith)
-count-fuel (suc f) b i zero h = let a : i + 0 ≡ i = omega arith in rw (ends b i 0 (omega arith), a) (omega arith)
+count-fuel zero b i zero h = let a : i + 0 ≡ i = omega arith in rw (forest-none b i 0 (omega arith), a) (omega arith)
+count-fuel (suc f) b i zero h = let a : i + 0 ≡ i = omega arith in rw (forest-none b i 0 (omega arith), a) (omega arith)
 count-fuel zero b i (suc l) h = absurd (omega arith)
 count-fuel (suc f) b i (suc l) h =
     let s : ℕ = spanIn b i (suc l) in

@@ -2,11 +2,11 @@
 use mathlib.Core.Path.{_≡_, refl, sym, ap, _∙_}
 use mathlib.Core.Bool.{Bool, true, false}
 use mathlib.Core.List.{List, [], _∷_, _++_, append-nil, append-assoc}
-use Prim.Native.Nat.{ℕ, suc, _+_, _-_, _≤_, _<_}
+use Prim.Native.Nat.{ℕ, _+_, _-_, _≤_, _<_}
 use native.Mathlib.Omega.{arith}
 use native.Mathlib.Numerals.{add-one}
-use lib.ListN.{length, take, drop, set, getD, replicate, length-append, length-take, length-drop, length-replicate, take-append-drop, replicate-append-replicate}
-use lib.Seq.{take-take, take-at, drop-at, take-add, take-suc-set, length-take-le, getD-drop, drop-cons, set-at, paste, paste-zero, paste-suc, drop-paste, drop-length}
+use lib.ListN.{length, take, drop, set, getD, replicate, length-append, length-take, length-drop, take-append-drop}
+use lib.Seq.{take-take, take-at, drop-at, take-add, take-suc-set, length-take-le, getD-drop, paste, paste-zero, paste-suc, drop-paste}
 use Rattle.record.specs.Choose.{if}
 use Rattle.decider.specs.Places.{Holds, Stacked, between}
 
@@ -95,27 +95,6 @@ pub shift-done : (l o : List ℕ) (at m e k : ℕ) → m ≤ e → e ≤ length 
     → Stacked l at (between m e l) o (at + (e - m))
 unfolding between
 shift-done l o at m e k g j q w = record { places = w ∙ ap (paste l at (drop m l)) q; count = omega (arith, length-between l m e g j) }
-
--- the loop that clears
-pub clear-none : (l : List ℕ) (n : ℕ) → l ≡ take n l ++ (replicate (n - n) 0 ++ drop n l)
-clear-none l n = let c : n - n ≡ 0 = omega arith in rw c (sym (take-append-drop n l))
-
-zero-more : (q ys : List ℕ) (j : ℕ) → (q ++ replicate j 0) ++ 0 ∷ ys ≡ q ++ (replicate (j + 1) 0 ++ ys)
-zero-more q ys j =
-    append-assoc q (replicate j 0) (0 ∷ ys)
-    ∙ ap (λ z. q ++ z) (sym (append-assoc (replicate j 0) (0 ∷ []) ys) ∙ ap (λ z. z ++ ys) (replicate-append-replicate j 1 0))
-
-pub clear-more : (l o : List ℕ) (n k : ℕ) → n ≤ k → k < length l → o ≡ take n l ++ (replicate (k - n) 0 ++ drop k l)
-    → set o k 0 ≡ take n l ++ (replicate (k + 1 - n) 0 ++ drop (k + 1) l)
-clear-more l o n k h g e =
-    let c : k + 1 - n ≡ (k - n) + 1 = omega arith in
-    let lp : length (take n l ++ replicate (k - n) 0) ≡ k =
-    length-append (take n l) (replicate (k - n) 0) ∙ omega (arith, length-take-le n l (omega arith), length-replicate {A = ℕ} (k - n) 0) in
-    rw (e, drop-cons l k 0 g, ← append-assoc (take n l) (replicate (k - n) 0) (getD l k 0 ∷ drop (suc k) l), set-at (take n l ++ replicate (k - n) 0) (getD l k 0) (drop (suc k) l) 0 k lp, c, add-one k)
-    (zero-more (take n l) (drop (suc k) l) (k - n))
-
-pub clear-done : (l o : List ℕ) (n k : ℕ) → k ≡ length l → o ≡ take n l ++ (replicate (k - n) 0 ++ drop k l) → o ≡ take n l ++ replicate (length l - n) 0
-clear-done l o n k e w = w ∙ rw (e, drop-length, append-nil)
 
 -- nothing is moved
 pub keep-both : (l : List ℕ) (m e : ℕ) → m ≤ e → e ≤ length l → Stacked l m (between m e l) l e

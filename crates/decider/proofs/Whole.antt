@@ -2,7 +2,7 @@
 use mathlib.Core.Path.{_≡_, refl, sym, ap, fun-ext, _∙_}
 use mathlib.Core.Bool.{Bool, true, false}
 use mathlib.Core.List.{List, _++_}
-use Prim.Native.Nat.{ℕ, zero, suc, _+_, _-_, _*_, _/_, _≤_, _<_, min}
+use Prim.Native.Nat.{ℕ, _+_, _-_, _*_, _/_, _≤_, _<_, min}
 use native.Mathlib.Omega.{arith}
 use lib.Dec.{ltb}
 use lib.ListN.{length, take, replicate, length-append}
@@ -13,11 +13,10 @@ use Rattle.record.specs.Choose.{if}
 use Rattle.record.specs.Forest.{forest, height}
 use Rattle.record.specs.Refusals.{noRoom}
 use Rattle.record.specs.declared.Refusal.{Refusal}
-use Rattle.fields.specs.First.{countBelow}
 use Rattle.fields.specs.Fields.{obligationsOf}
 use Rattle.fields.proofs.First.{by}
 use Rattle.meaning.specs.Meaning.{said, owed, decides, obliges}
-use Rattle.meaning.specs.Reading.{isKind, bookOf, bagsOf}
+use Rattle.meaning.specs.Reading.{bookOf, bagsOf}
 use Rattle.meaning.specs.declared.Decision.{Decision}
 use Rattle.judge.specs.Judge.{judgeOf}
 use Rattle.judge.specs.Request.{judgeRequestOf}
@@ -25,11 +24,9 @@ use Rattle.judge.specs.declared.Judged.{Judged}
 use Rattle.judge.specs.declared.Judged.the-variants as book
 use Rattle.judge.specs.declared.JudgedRequest.{JudgedRequest}
 use Rattle.judge.specs.declared.JudgedRequest.the-variants as request
-use Rattle.judge.specs.Exactly.{Breaks, empty, cut, many, field, place}
-use Rattle.judge.specs.ExactlyRequest.{BreaksRequest, cut as cut-request, many as many-entries, field as entry}
 use Rattle.judge.proofs.Depth.{accepted-deep}
-use Rattle.judge.proofs.Exactly.{accepted-keeps, refused-breaks}
-use Rattle.judge.proofs.ExactlyRequest.{refused-request-breaks}
+use Rattle.judge.proofs.Exactly.{accepted-keeps}
+use Rattle.judge.proofs.Bounds.{refused-small, accepted-small, refused-request-small}
 use Rattle.decider.specs.Outcome.{dutiesOf, inOrder, outcomeOf, filled, outOf, CountsByBags}
 use Rattle.decider.specs.Inside.{treeFrom, childAt, roomOf, Ruled, Answered}
 use Rattle.decider.specs.declared.Outcome.{Outcome}
@@ -85,15 +82,6 @@ accepted-has b {n} {k} ej e =
     (w .0 .sized .some, w .0 .sized .bytes, w .1, accepted-deep b n k (sym ej ∙ e))
 
 -- so no book asks for more than 1,000 places
-count-le : (b : List ℕ) (n : ℕ) → obligationsOf b n ≤ n
-unfolding obligationsOf countBelow
-count-le b zero = omega arith
-count-le b (suc n) = go (isKind b n 8) (count-le b n)
-  where
-    go : (k : Bool) {m : ℕ} → m ≤ n → m + if k 1 0 ≤ suc n
-    go true h = omega arith
-    go false h = omega arith
-
 room-test : (room k : ℕ) → k ≤ mostRecords → ltb (min room mostRecords) k ≡ ltb room k
 room-test room k h =
     by (ltb room k)
@@ -108,8 +96,8 @@ most-room b q room = go (judgeOf b) refl (judgeRequestOf q) (Decided (decides (b
     go (book.Refused r) e h a = refl
     go (book.Accepted n k) e (request.Refused r) a = refl
     go (book.Accepted n k) e (request.Accepted m) a =
-        let w = accepted-keeps b n k (sym e) in
-        rw (room-test room k (omega (arith, w .1, count-le b n, w .0 .sized .most)))
+        let w = accepted-small b n k (sym e) in
+        rw (room-test room k (omega (arith, w .0, w .1)))
 
 -- what an answer says of its call
 inverted : (j : Judged) (h : JudgedRequest) (room : ℕ) (v : Decision) (m : ℕ) {d : Decision} {n : ℕ} → inOrder j h room (Decided v m) ≡ Decided d n → n ≡ m
@@ -134,24 +122,12 @@ pub refused-line : (b q : List ℕ) (room : ℕ) {r : Refusal} → outcomeOf b q
 unfolding outcomeOf
 refused-line b q room {r} = go (judgeOf b) refl (judgeRequestOf q) refl
   where
-    broken : {s : Refusal} → Breaks b s → s .line ≤ mostRecords
-    broken (empty e x) = rw e (omega arith)
-    broken (cut e x) = rw e (omega arith)
-    broken (many e x y) = rw e (omega arith)
-    broken (field n i e z w) = rw e (omega (arith, z .most, w .inside))
-    broken (place n i e z k w) = rw e (omega (arith, z .most, w .inside))
-
-    asked : {s : Refusal} → BreaksRequest q s → s .line ≤ mostRecords
-    asked (cut-request e x) = rw e (omega arith)
-    asked (many-entries e x y) = rw e (omega arith)
-    asked (entry n i e z w) = rw e (omega (arith, z .most, w .inside))
-
     same : {s t : Refusal} → Refused s ≡ Refused t → s .line ≤ mostRecords → t .line ≤ mostRecords
     same {s} {t} e h = let x : s ≡ t = cc in rw (← x) h
 
     go : (j : Judged) → j ≡ judgeOf b → (h : JudgedRequest) → h ≡ judgeRequestOf q → inOrder j h room (Decided (decides (bagsOf q) (bookOf b)) (length (dutiesOf b q))) ≡ Refused r → r .line ≤ mostRecords
-    go (book.Refused s) ej h eh e = same e (broken (refused-breaks b s (sym ej)))
-    go (book.Accepted n k) ej (request.Refused s) eh e = same e (asked (refused-request-breaks q s (sym eh)))
+    go (book.Refused s) ej h eh e = same e (refused-small b s (sym ej) .line)
+    go (book.Accepted n k) ej (request.Refused s) eh e = same e (omega (arith, refused-request-small q s (sym eh) .line))
     go (book.Accepted n k) ej (request.Accepted m) eh e = at (ltb room k) e
       where
         at : (t : Bool) → if t (Refused noRoom) (Decided (decides (bagsOf q) (bookOf b)) (length (dutiesOf b q))) ≡ Refused r → r .line ≤ mostRecords

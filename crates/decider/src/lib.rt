@@ -12,8 +12,8 @@ ghost use Prim.Native.Nat.{_+_, _*_, _-_, _<_, _≤_};
 ghost use lib.ListN.{length};
 ghost use Rattle.record.specs.Bytes.{size};
 ghost use Rattle.record.specs.Forest.{forest, height};
-ghost use Rattle.meaning.specs.Meaning.{is, said, owed, combine, ownOf, binding, overPolicies};
-ghost use Rattle.meaning.specs.Reading.{policiesBy, obligationsIn, bagsOf};
+ghost use Rattle.meaning.specs.Meaning.{is, said, owed, combine, ownOf, binding};
+ghost use Rattle.meaning.specs.Reading.{obligationsIn, bagsOf};
 ghost use Rattle.algorithm.specs.Fold.{isOnly};
 ghost use Rattle.fields.specs.Fields.{obligationsOf};
 ghost use Rattle.decider.specs.Outcome.{outcomeOf, outOf};
@@ -337,7 +337,7 @@ fn answer(book: &[u8], request: &[u8], records: usize, out: &mut [u16]) -> Rulin
 {
     let r = child(book, request, 0, records, MOST_BELOW, out, 0);
     let n = r.count;
-    places::clear(out, n);
+    record::lent::clear(out, n);
     r
 }
 

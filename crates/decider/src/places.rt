@@ -1,8 +1,7 @@
 // Obligations in lent places, as a stack.
-ghost use mathlib.Core.Path.{_≡_};
-ghost use mathlib.Core.List.{[], _++_};
-ghost use Prim.Native.Nat.{_-_, _≤_};
-ghost use lib.ListN.{length, take, replicate};
+ghost use mathlib.Core.List.{[]};
+ghost use Prim.Native.Nat.{_≤_};
+ghost use lib.ListN.{length};
 ghost use Rattle.record.specs.Choose.{if};
 ghost use Rattle.decider.specs.Places.{Stacked, between};
 
@@ -36,16 +35,4 @@ pub fn settle(out: &mut [u16], base: usize, m: usize, e: usize, old: bool, new: 
         return m;
     }
     base
-}
-
-// Puts zero into every place from n on.
-pub fn clear(out: &mut [u16], n: usize)
-    requires { ⌜ n ≤ length (now out) ⌝ }
-    ensures { λ _. ⌜ now (out .exit) ≡ take n (now (out .entry)) ++ replicate (length (now (out .entry)) - n) 0 ⌝ }
-{
-    let mut k = n;
-    while k < out.len() {
-        out[k] = 0;
-        k += 1;
-    }
 }

@@ -1,6 +1,6 @@
 -- The run of a translated book: it ends within the programme's length, never meets 8, gives no decision before its end, and then gives the decision and the
 -- obligations of the tree. Assumes nothing.
-use Prim.Native.Nat.{ℕ, zero, suc, _+_, _≤_, _<_}
+use Prim.Native.Nat.{ℕ, zero, suc, _≤_, _<_}
 use mathlib.Core.Path.{_≡_, refl, sym, ap, _∙_}
 use mathlib.Core.Bool.{true, false}
 use mathlib.Core.Logic.{inl}
@@ -15,13 +15,13 @@ use Rattle.meaning.specs.Meaning.{Bags}
 use Rattle.meaning.specs.declared.Decision.{Decision}
 use Rattle.meaning.specs.declared.Decision.the-variants.{Permit, Deny, NotApplicable, Indeterminate}
 use Rattle.programme.specs.declared.State.{State}
-use Rattle.programme.specs.Entry.{Entry, further, lawful}
+use Rattle.programme.specs.Entry.{Entry, further, isFurther, lawful}
 use Rattle.programme.specs.Layout.{unpackOf, packOf, allowed, fetch}
 use Rattle.programme.specs.Step.{mayStep, stepOf, isOver, countBy, freshOf}
 use Rattle.programme.proofs.Forward.{still-allowed}
 use Rattle.run.specs.Tick.{countOf, firstPlaces}
 use Rattle.promises.specs.Steps.{afterSteps, Goes}
-use Rattle.translator.specs.Flat.{Flat, flatAfter, sees, flatStep, flatRun, flatOf, isFurther, Codes}
+use Rattle.translator.specs.Flat.{Flat, flatAfter, sees, flatStep, flatRun, flatOf, Codes}
 use Rattle.translator.proofs.Packed.{packed-step}
 use Rattle.translator.proofs.Arrays.{Going}
 use Rattle.translator.proofs.Whole.{Answers}

@@ -1,6 +1,6 @@
 -- The claims of specs/Demand.antt. Assumes nothing.
 use Prim.Native.Nat.{ℕ, _+_, _-_, _*_, _/_, _≤_, _<_, min}
-use mathlib.Core.Path.{_≡_, refl, sym, ap, _∙_}
+use mathlib.Core.Path.{_≡_, refl, ap, _∙_}
 use mathlib.Core.Bool.{Bool, true, false}
 use mathlib.Core.List.{List, [], _∷_}
 use lib.Dec.{ltb, leb}
@@ -26,23 +26,24 @@ use Rattle.judge.proofs.Exactly.{accepted-keeps}
 use Rattle.judge.proofs.Sound.{kept-nests}
 use Rattle.judge.proofs.Depth.{book-deep}
 use Rattle.programme.specs.declared.State.{State}
-use Rattle.programme.specs.Entry.{Entry, further, lawful}
+use Rattle.programme.specs.Entry.{Entry, further, isFurther, lawful}
 use Rattle.programme.specs.Core.{atOnce}
-use Rattle.programme.specs.Layout.{allowed, fetch}
+use Rattle.programme.specs.Layout.{fetch}
 use Rattle.programme.specs.Step.{isOver, freshOf}
+use Rattle.programme.proofs.Spelling.{Key, Short}
 use Rattle.run.specs.Run.{runOf}
-use Rattle.run.specs.Tick.{admitted, Ticked, answered, refused, tickOf}
+use Rattle.run.specs.Tick.{admitted, Ticked, answered, tickOf}
 use Rattle.run.specs.declared.kinds.Ran.{Ran}
 use Rattle.run.proofs.Runs.{runs-stay-allowed}
 use Rattle.promises.specs.Steps.{afterSteps}
 use Rattle.promises.proofs.Steps.{runs-are, steps-add, left-after}
 use Rattle.promises.proofs.Ticks.{tick-with}
 use Rattle.translator.specs.Code.{programme, translated, inNumbers, obligations}
-use Rattle.translator.specs.Flat.{flatOf, isFurther, Codes}
+use Rattle.translator.specs.Flat.{flatOf, Codes}
 use Rattle.translator.specs.Nesting.{nestTree, deepTree}
 use Rattle.translator.specs.Translate.{programmeOf}
 use Rattle.translator.proofs.Holding.{InTree, book-has}
-use Rattle.translator.proofs.Fetch.{Key, Short, numbers-length, codes, lawful-at}
+use Rattle.translator.proofs.Fetch.{numbers-length, codes, lawful-at}
 use Rattle.translator.proofs.Size.{short, recs}
 use Rattle.translator.proofs.Counted.{book-records, book-nest, obligations-le}
 use Rattle.translator.proofs.Whole.{Answers, translated-right}

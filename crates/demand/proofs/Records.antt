@@ -3,21 +3,19 @@ use Prim.Native.Nat.{ℕ, _-_, _/_, _≤_, _<_}
 use mathlib.Core.Path.{_≡_, refl}
 use mathlib.Core.Logic.{inl, inr, ⊎-elim}
 use mathlib.Core.List.{List}
-use lib.ListN.{length, getD}
+use lib.ListN.{getD}
 use native.Mathlib.Omega.{arith}
-use Rattle.meaning.specs.Meaning.{Bags, decides, obliges}
+use Rattle.meaning.specs.Meaning.{decides, obliges}
 use Rattle.meaning.specs.Policy.{Tree}
 use Rattle.meaning.specs.Reading.{bookOf}
 use Rattle.meaning.specs.declared.Test.{Test}
 use Rattle.meaning.specs.declared.Decision.{Decision}
 use Rattle.meaning.specs.declared.Effect.the-variants.{Permits, Denies}
-use Rattle.programme.specs.declared.State.{State}
 use Rattle.programme.specs.Entry.{Entry, begin, match, further, opens, compare, close, rule, enter, applies, conclude, oblige, leave, finish}
 use Rattle.programme.specs.Core.{atOnce}
-use Rattle.programme.specs.Layout.{fetch}
 use Rattle.programme.specs.Step.{freshOf}
+use Rattle.programme.proofs.Spelling.{Holds}
 use Rattle.run.specs.Run.{runOf}
-use Rattle.run.specs.declared.kinds.Ran.{Ran}
 use Rattle.promises.specs.Place.{headOf}
 use Rattle.promises.specs.Sight.{Obliges}
 use Rattle.promises.specs.Steps.{afterSteps, entryAt, Met}
@@ -26,7 +24,7 @@ use Rattle.translator.specs.Code.{translated, obligations}
 use Rattle.translator.specs.Flat.{flatOf, Codes}
 use Rattle.translator.specs.Translate.{programmeOf}
 use Rattle.translator.proofs.Holding.{InTree, book-has}
-use Rattle.translator.proofs.Words.{Holds, Padded, padded, spelled}
+use Rattle.translator.proofs.Words.{Padded, padded, spelled}
 use Rattle.demand.specs.Records.{Numbers, OnlyRecords}
 use Rattle.demand.proofs.Course.{course, on-the-way}
 use Rattle.demand.proofs.Demand as demand

@@ -1,14 +1,11 @@
 -- Laws of the C host's call. Assumes nothing.
 use mathlib.Core.Path.{_≡_, refl, sym, ap, _∙_}
-use mathlib.Core.Bool.{Bool, true, false}
 use mathlib.Core.List.{List, [], _∷_, _++_, append-assoc}
 use Prim.Native.Nat.{ℕ, suc, _+_, _-_, _*_, _/_, _%_, _≤_, _<_, min}
 use native.Mathlib.Omega.{arith}
 use native.Mathlib.Numerals.{add-one}
-use lib.Dec.{ltb}
 use lib.ListN.{length, take, drop, set, getD, replicate, length-append}
 use lib.Seq.{length-take-le, take-suc, drop-cons, append-snoc, set-at, take-at}
-use borrow.Author.Tests.{lt-ltb, le-ltb, ltb-true, ltb-false}
 use Rattle.record.specs.Bytes.{mostRecords}
 use Rattle.record.specs.declared.Refusal.{Refusal}
 use Rattle.meaning.specs.declared.Decision.{Decision}
@@ -23,7 +20,7 @@ unfolding pairsOf
 pairs-both [] ys = refl
 pairs-both (x ∷ xs) ys = ap (λ z. x / 256 ∷ x % 256 ∷ z) (pairs-both xs ys)
 
-pairs-length : (xs : List ℕ) → length (pairsOf xs) ≡ length xs * 2
+pub pairs-length : (xs : List ℕ) → length (pairsOf xs) ≡ length xs * 2
 unfolding pairsOf
 pairs-length [] = refl
 pairs-length (x ∷ xs) = omega (arith, pairs-length xs)
@@ -81,11 +78,3 @@ module _ (b q ps l : List ℕ) {o : Outcome} (room : length ps ≡ min (length l
 -- the places that are lent
 pub places-lent : (z : List ℕ) (r a : ℕ) → mostRecords ≡ length z → r ≡ min a mostRecords → length (take r z) ≡ r
 places-lent z r a e h = length-take-le r z (omega arith)
-
--- too short for n obligations by places is too short by bytes: twice as many are needed
-pub bytes-needed : (l : List ℕ) (n : ℕ) → ltb (length l / 2) n ≡ ltb (length l) (2 * n)
-bytes-needed l n = go (ltb (length l / 2) n) refl
-  where
-    go : (t : Bool) → ltb (length l / 2) n ≡ t → ltb (length l / 2) n ≡ ltb (length l) (2 * n)
-    go true e = let h = ltb-true (length l / 2) n e in e ∙ sym (lt-ltb (length l) (2 * n) (omega arith))
-    go false e = let h = ltb-false (length l / 2) n e in e ∙ sym (le-ltb (length l) (2 * n) (omega arith))

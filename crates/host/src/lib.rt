@@ -3,7 +3,7 @@ use decider::Outcome;
 use meaning::Decision;
 ghost use mathlib.Core.Path.{_≡_};
 ghost use mathlib.Core.List.{_++_};
-ghost use Prim.Native.Nat.{_+_, _*_, _-_, _/_, _≤_, min};
+ghost use Prim.Native.Nat.{_*_, _-_, _/_, _≤_, min};
 ghost use lib.ListN.{length, take, drop, replicate};
 ghost use Rattle.record.specs.Bytes.{mostRecords};
 ghost use Rattle.decider.specs.declared.Outcome.the-variants.{Decided};

@@ -37,7 +37,7 @@ module _ (b : List ℕ) (n : ℕ) (w : Nested b n) where
   -- the children of p from i on, and what stands below them
   deep : (f p i left : ℕ) → left ≤ f → p < i → i + left ≡ endOf b p → p < n → ((j : ℕ) → p < j → j < i → endOf b j ≤ i) → height (forest b i left) + depthOf b p ≤ 16
   deep zero p i left l a e m inner = let h = height-none (forest b i left) (forest-none b i left (omega (arith, l))) in let d = w .depths p m in omega (arith, h, d)
-  deep (suc f) p i zero l a e m inner = let h = height-none (forest b i 0) (forest-none b i 0 refl) in let d = w .depths p m in omega (arith, h, d)
+  deep (suc f) p i zero l a e m inner = let h = height-none (forest b i 0) (forest-none b i 0 (omega arith)) in let d = w .depths p m in omega (arith, h, d)
   deep (suc f) p i (suc k) l a e m inner =
       let ends = w .ends p m in
       let i-in : i < n = omega (arith, e, ends) in

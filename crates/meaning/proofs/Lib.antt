@@ -1,2 +1,3 @@
 pub mod Logic
 pub mod Keys
+pub mod Cases

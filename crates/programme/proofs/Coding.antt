@@ -8,6 +8,9 @@ use lib.Dec.{eqb, ltb, leb}
 use borrow.Author.Tests.{lt-ltb, le-leb, leb-true}
 use Rattle.record.specs.Choose.{both}
 use Rattle.record.proofs.Choose.{both-left, both-right}
+use Rattle.value.specs.Value.{functionOf}
+use Rattle.value.specs.declared.Function.{Function}
+use Rattle.value.specs.declared.Function.the-variants.{Equal, Greater, GreaterOrEqual, Less, LessOrEqual}
 use Rattle.meaning.specs.declared.Truth.{Truth}
 use Rattle.meaning.specs.declared.Truth.the-variants.{True, False, Unknown}
 use Rattle.meaning.specs.declared.Effect.{Effect}
@@ -24,7 +27,7 @@ use Rattle.programme.specs.declared.Op.the-variants.{All, Any, Not}
 use Rattle.programme.specs.declared.Level.{Level}
 use Rattle.programme.specs.declared.Frame.{Frame}
 use Rattle.programme.specs.declared.Head.{Head}
-use Rattle.programme.specs.Layout.{bitOf, truthCode, truthBy, decisionCode, decisionBy, effectCode, effectBy, opCode, opBy, algorithmCode, algorithmBy, rankBy, accCode, accBy, levelOf, levelWord, frameOf, frameWord, unpackOf, packOf, allowed}
+use Rattle.programme.specs.Layout.{bitOf, truthCode, truthBy, decisionCode, decisionBy, effectCode, effectBy, opCode, opBy, algorithmCode, algorithmBy, functionCode, rankBy, accCode, accBy, levelOf, levelWord, frameOf, frameWord, unpackOf, packOf, allowed}
 use Rattle.programme.specs.Moves.{Held, Ranged}
 
 -- words
@@ -57,6 +60,10 @@ unfolding effectBy
 effect-back Permits = refl
 effect-back Denies = refl
 
+pub effect-small : (e : Effect) → effectCode e ≤ 1
+effect-small Permits = omega arith
+effect-small Denies = omega arith
+
 pub op-back : (o : Op) → opBy (opCode o) ≡ o
 unfolding opBy
 op-back All = refl
@@ -84,6 +91,21 @@ algorithm-small First = omega arith
 algorithm-small PoliciesDeny = omega arith
 algorithm-small PoliciesPermit = omega arith
 algorithm-small OnlyOne = omega arith
+
+pub function-back : (f : Function) → functionOf (functionCode f) ≡ f
+unfolding functionOf
+function-back Equal = refl
+function-back Greater = refl
+function-back GreaterOrEqual = refl
+function-back Less = refl
+function-back LessOrEqual = refl
+
+pub function-small : (f : Function) → functionCode f ≤ 5
+function-small Equal = omega arith
+function-small Greater = omega arith
+function-small GreaterOrEqual = omega arith
+function-small Less = omega arith
+function-small LessOrEqual = omega arith
 
 pub acc-back : (a : Acc) → accBy (accCode a) ≡ a
 unfolding accBy rankBy decisionBy
@@ -119,11 +141,15 @@ pub bit-small : (b : Bool) → bitOf b ≤ 1
 bit-small true = omega arith
 bit-small false = omega arith
 
--- a digit below c, above a number below b
-digit : (b c n low mid high : ℕ) → n ≡ low + b * (mid + c * high) → low < b → mid < c → n / b % c ≡ mid
-digit b c n low mid high e l m =
-    let z : 0 < b = omega arith in
-    rw (e, add-mul-div-left low (mid + c * high) z, div-eq-of-lt l, zero-add, add-mul-mod-self-left mid c high, mod-eq-of-lt m)
+-- a number below b, what stands above it, and of that a number below c
+pub remainder : (b n low high : ℕ) → n ≡ low + b * high → low < b → n % b ≡ low
+remainder b n low high e l = rw (e, add-mul-mod-self-left low b high, mod-eq-of-lt l)
+
+pub quotient : (b n low high : ℕ) → n ≡ low + b * high → low < b → n / b ≡ high
+quotient b n low high e l = let z : 0 < b = omega arith in rw (e, add-mul-div-left low high z, div-eq-of-lt l, zero-add)
+
+pub digit : (b c n low mid high : ℕ) → n ≡ low + b * (mid + c * high) → low < b → mid < c → n / b % c ≡ mid
+digit b c n low mid high e l m = rw (quotient b n low (mid + c * high) e l) (remainder c (mid + c * high) mid high refl m)
 
 -- levels and frames
 pub level-back : (l : Level) → levelOf (levelWord l) ≡ l
@@ -132,7 +158,7 @@ level-back l =
     let a = op-small (l .op) in
     let b = truth-small (l .val) in
     let n : ℕ = opCode (l .op) + 4 * truthCode (l .val) in
-    let op : n % 4 ≡ opCode (l .op) = omega arith in
+    let op : n % 4 ≡ opCode (l .op) = remainder 4 n (opCode (l .op)) (truthCode (l .val)) refl (omega arith) in
     let val : n / 4 % 4 ≡ truthCode (l .val) = digit 4 4 n (opCode (l .op)) (truthCode (l .val)) 0 (omega arith) (omega arith) (omega arith) in
     rw (op, val, op-back, truth-back)
 
@@ -142,7 +168,7 @@ frame-back f p d =
     let a = algorithm-small (f .alg) in
     let b = acc-small (f .acc) in
     let n : ℕ = algorithmCode (f .alg) + 8 * (accCode (f .acc) + 16 * (f .permits + 1024 * f .denies)) in
-    let alg : n % 8 ≡ algorithmCode (f .alg) = omega arith in
+    let alg : n % 8 ≡ algorithmCode (f .alg) = remainder 8 n (algorithmCode (f .alg)) _ refl (omega arith) in
     let acc : n / 8 % 16 ≡ accCode (f .acc) =
     digit 8 16 n (algorithmCode (f .alg)) (accCode (f .acc)) (f .permits + 1024 * f .denies) refl (omega arith) (omega arith) in
     let permits : n / 128 % 1024 ≡ f .permits =
@@ -190,7 +216,7 @@ module _ (h : Head) (s : Held h) where
 
   at-back : packOf h % 8192 ≡ h .at
   unfolding packOf
-  at-back = rw (add-mul-mod-self-left, mod-eq-of-lt (s .at))
+  at-back = remainder 8192 (packOf h) (h .at) _ refl (s .at)
 
   depth-back : packOf h / 8192 % 32 ≡ h .depth
   unfolding packOf

@@ -26,12 +26,13 @@ use Rattle.programme.specs.declared.Level.{Level}
 use Rattle.programme.specs.declared.Placing.{Placing}
 use Rattle.programme.specs.declared.Placing.the-variants.{Rest, AddPermit, AddDeny, FallPermit, FallDeny, FallBoth, Cut, Down}
 use Rattle.programme.specs.Entry.{Entry, begin, match, further, opens, compare, close, rule, enter, applies, conclude, oblige, leave, finish, extra, reach, fits, lawful}
-use Rattle.programme.specs.Core.{Changing, keep, push, swap, below, back, past, told, settledBy, targetDone, sectionDone, conjunctionDone, matchDone, tell, closed, concluded, noted, pushed, finished, core}
-use Rattle.programme.specs.Machine.{roomF, roomL, heightAfter, permitsAfter, deniesAfter, cutAfter}
+use Rattle.programme.specs.Core.{past, told, settledBy, targetDone, sectionDone, conjunctionDone, matchDone, tell, closed, concluded, noted, pushed, finished, core}
+use Rattle.programme.specs.Machine.{roomF, roomL, permitsAfter, deniesAfter, cutAfter}
 use Rattle.programme.specs.Layout.{unpackOf, allowed, fetch}
 use Rattle.programme.specs.Step.{headAfter, after, seen, mayStep, stepOf}
 use Rattle.programme.specs.declared.State.{State}
 use Rattle.programme.proofs.Coding.{ranged, ranged-back, allowed-pack}
+use Rattle.programme.proofs.Stacks.{height-fits}
 use Rattle.programme.specs.Moves.{Ranged, Placed}
 
 -- how far a match leads
@@ -159,28 +160,6 @@ placed-core finish g h l m f b w = go (is (h .reg) Deny) (ltb (h .permits) (h .d
     go true false z = tt
     go false x z = tt
 
-depth-range : (z : Changing Frame) (k : ℕ) → k ≤ 16 → heightAfter roomF z k ≤ 16
-depth-range keep k w = w
-depth-range (push x) k w = go (ltb (suc k) roomF) refl
-  where
-    go : (b : Bool) → ltb (suc k) roomF ≡ b → if b (suc k) k ≤ 16
-    go true e = let z = ltb-true (suc k) roomF e in omega (arith, z)
-    go false e = w
-depth-range (swap x) k w = w
-depth-range (below x) k w = w
-depth-range (back x) k w = omega (arith, w)
-
-nest-range : (z : Changing Level) (k : ℕ) → k ≤ 14 → heightAfter roomL z k ≤ 14
-nest-range keep k w = w
-nest-range (push x) k w = go (ltb (suc k) roomL) refl
-  where
-    go : (b : Bool) → ltb (suc k) roomL ≡ b → if b (suc k) k ≤ 14
-    go true e = let z = ltb-true (suc k) roomL e in omega (arith, z)
-    go false e = w
-nest-range (swap x) k w = w
-nest-range (below x) k w = w
-nest-range (back x) k w = omega (arith, w)
-
 permits-range : (h : Head) (z : Placing) → Placed z (h .permits) (h .denies) → Ranged h → permitsAfter z (h .cut) (h .permits) ≤ 1000
 permits-range h Rest w r = r .permits
 permits-range h (AddPermit n) w r = go (ltb (h .permits) (h .cut)) refl
@@ -226,8 +205,8 @@ forward e g long h l m f b s r w =
       i,
       record {
         at = omega (arith, i, s);
-        depth = depth-range (core g h e l m f b .frames) (h .depth) (r .depth);
-        nest = nest-range (core g h e l m f b .levels) (h .nest) (r .nest);
+        depth = omega (arith, height-fits roomF (core g h e l m f b .frames) (h .depth) (omega (arith, r .depth)));
+        nest = omega (arith, height-fits roomL (core g h e l m f b .levels) (h .nest) (omega (arith, r .nest)));
         permits = permits-range h (core g h e l m f b .placing) t r;
         stacks = stacks-range h (core g h e l m f b .placing) t r;
       },

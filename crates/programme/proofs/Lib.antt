@@ -1,4 +1,6 @@
 pub mod Coding
+pub mod Spelling
+pub mod Stacks
 pub mod Forward
 pub mod Outcome
 pub mod Found

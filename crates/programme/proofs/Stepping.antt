@@ -15,20 +15,13 @@ use Rattle.programme.specs.Entry.{Entry, extra}
 use Rattle.programme.specs.Core.{Changing, keep, push, swap, below, back, Out}
 use Rattle.programme.specs.Machine.{heightAfter, stackAfter, placesAfter}
 use Rattle.programme.specs.Layout.{levelOf, levelWord, frameOf, frameWord, unpackOf, packOf, allowed, fetch}
-use Rattle.programme.specs.Step.{inWords, headAfter, after, seen, mayStep, stepOf, steppedOf, stateOf}
-use Rattle.programme.specs.Moves.{Ranged, changeOf, changingOf, moveOf, metIf, meets, Placed, headWith}
+use Rattle.programme.specs.Step.{changingOf, inWords, headAfter, after, seen, mayStep, stepOf, steppedOf, stateOf}
+use Rattle.programme.specs.Moves.{Ranged, moveOf, metIf, meets, Placed, headWith}
 use Rattle.programme.proofs.Coding.{ranged}
 use Rattle.programme.proofs.Forward.{placed-core, lawful-parts, step-forward}
 
--- a change in numbers is the same change
-words-same : {A : Type 0} (f : A → ℕ) (c : Changing A) → changingOf (changeOf f c) ≡ inWords f c
-words-same f keep = refl
-words-same f (push x) = refl
-words-same f (swap x) = refl
-words-same f (below x) = refl
-words-same f (back x) = refl
-
-height-same : {A : Type 0} (f : A → ℕ) (room k : ℕ) (c : Changing A) → heightAfter room (changingOf (changeOf f c)) k ≡ heightAfter room c k
+-- a change in numbers leads as high
+height-same : {A : Type 0} (f : A → ℕ) (room k : ℕ) (z : Changing A) → heightAfter room (inWords f z) k ≡ heightAfter room z k
 height-same f room k keep = refl
 height-same f room k (push x) = refl
 height-same f room k (swap x) = refl
@@ -103,7 +96,5 @@ module _ (p : List ℕ) (g : Bags) (s : State) where
             found .2,
             u,
             with-is heads entry outcome,
-            words-same frameWord (outcome .frames),
-            words-same levelWord (outcome .levels),
           )
           (refl, refl, after-ranged)

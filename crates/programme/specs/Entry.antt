@@ -63,6 +63,22 @@ reach (oblige e n) = 0
 reach (leave n) = n
 reach finish = 0
 
+-- the second or third entry of a match or comparison
+abbrev pub isFurther : Entry → Bool
+isFurther (begin al c) = false
+isFurther (match t m c l i j x) = false
+isFurther further = true
+isFurther (opens op) = false
+isFurther (compare t n) = false
+isFurther (close n) = false
+isFurther (rule e n) = false
+isFurther (enter al) = false
+isFurther (applies n) = false
+isFurther (conclude n) = false
+isFurther (oblige e n) = false
+isFurther (leave n) = false
+isFurther finish = false
+
 -- a cut is at most 1,000, an obligation's number below 65,536, and a further entry is no first one
 abbrev pub fits : Entry → Bool
 fits (begin al c) = leb c 1000

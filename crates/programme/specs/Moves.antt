@@ -1,11 +1,10 @@
 -- What the code passes on: the ranges of a first number, and the outcome of the core in numbers. Assumes nothing.
-use Prim.Native.Nat.{ℕ, suc, _+_, _<_, _≤_}
+use Prim.Native.Nat.{ℕ, _+_, _<_, _≤_}
 use mathlib.Core.Bool.{Bool, false}
 use Rattle.record.specs.Choose.{if}
 use Rattle.meaning.specs.Meaning.{Bags}
 use Rattle.programme.specs.declared.Head.{Head}
 use Rattle.programme.specs.declared.Change.{Change}
-use Rattle.programme.specs.declared.Change.the-variants.{Keep, Push, Swap, Under, Back}
 use Rattle.programme.specs.declared.Move.{Move}
 use Rattle.programme.specs.declared.Met.{Met}
 use Rattle.programme.specs.declared.Met.the-variants.{Outside, Does}
@@ -15,9 +14,10 @@ use Rattle.programme.specs.declared.Next.{Next}
 use Rattle.programme.specs.declared.Placing.{Placing}
 use Rattle.programme.specs.declared.Placing.the-variants.{Rest, AddPermit, AddDeny, FallPermit, FallDeny, FallBoth, Cut, Down}
 use Rattle.programme.specs.Entry.{Entry, extra, lawful}
-use Rattle.programme.specs.Core.{Changing, keep, push, swap, below, back, Out, core}
-use Rattle.programme.specs.Machine.{roomF, roomL, heightAfter, cutAfter, permitsAfter, deniesAfter}
+use Rattle.programme.specs.Core.{Out, core}
+use Rattle.programme.specs.Machine.{roomF, roomL, heightAfter}
 use Rattle.programme.specs.Layout.{levelWord, frameWord}
+use Rattle.programme.specs.Step.{changeOf, changingOf, headTo}
 
 -- every field of the first number fits its bits
 pub record Held (h : Head) : Type 0 where
@@ -35,21 +35,6 @@ pub record Ranged (h : Head) : Type 0 where
   pub nest : h .nest ≤ 14
   pub permits : h .permits ≤ 1000
   pub stacks : h .cut + h .denies ≤ 1000
-
--- a change of a stack, in numbers, and back
-abbrev pub changeOf : {A : Type 0} → (A → ℕ) → Changing A → Change
-changeOf f keep = Keep
-changeOf f (push x) = Push (f x)
-changeOf f (swap x) = Swap (f x)
-changeOf f (below x) = Under (f x)
-changeOf f (back x) = Back (f x)
-
-abbrev pub changingOf : Change → Changing ℕ
-changingOf Keep = keep
-changingOf (Push n) = push n
-changingOf (Swap n) = swap n
-changingOf (Under n) = below n
-changingOf (Back n) = back n
 
 -- the outcome of the core, in numbers
 abbrev pub moveOf : Out → Move
@@ -86,16 +71,5 @@ Placed (Down n) p d = p + n ≤ d
 
 -- the first number after a move past so many further entries
 unfoldable pub headWith : Head → ℕ → Move → Head
-headWith h further m = record {
-  at = h .at + suc (further + m .next .jump);
-  depth = heightAfter roomF (changingOf (m .frames)) (h .depth);
-  nest = heightAfter roomL (changingOf (m .levels)) (h .nest);
-  permits = permitsAfter (m .placing) (h .cut) (h .permits);
-  denies = deniesAfter (m .placing) (h .cut) 1000 (h .denies);
-  cut = cutAfter (m .placing) (h .cut);
-  reg = m .next .reg;
-  ands = m .next .ands;
-  ors = m .next .ors;
-  sections = m .next .sections;
-  over = m .over;
-}
+headWith h further m =
+    headTo h further (heightAfter roomF (changingOf (m .frames)) (h .depth)) (heightAfter roomL (changingOf (m .levels)) (h .nest)) (m .next) (m .over) (m .placing)

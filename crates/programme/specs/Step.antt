@@ -8,36 +8,54 @@ use Rattle.meaning.specs.Meaning.{Bags}
 use Rattle.meaning.specs.declared.Decision.{Decision}
 use Rattle.meaning.specs.declared.Decision.the-variants.{Permit, Deny, NotApplicable, Indeterminate}
 use Rattle.meaning.specs.declared.Truth.the-variants.{True, False}
+use Rattle.programme.specs.declared.Change.{Change}
+use Rattle.programme.specs.declared.Change.the-variants.{Keep, Push, Swap, Under, Back}
 use Rattle.programme.specs.declared.Head.{Head}
+use Rattle.programme.specs.declared.Next.{Next}
+use Rattle.programme.specs.declared.Placing.{Placing}
 use Rattle.programme.specs.declared.State.{State}
 use Rattle.programme.specs.Entry.{Entry, extra, lawful}
 use Rattle.programme.specs.Core.{Changing, keep, push, swap, below, back, Out, core}
 use Rattle.programme.specs.Machine.{roomF, roomL, heightAfter, stackAfter, cutAfter, permitsAfter, deniesAfter, placesAfter}
 use Rattle.programme.specs.Layout.{levelOf, levelWord, frameOf, frameWord, unpackOf, packOf, fetch}
 
--- the same change, of the numbers
-abbrev pub inWords : {A : Type 0} → (A → ℕ) → Changing A → Changing ℕ
-inWords f keep = keep
-inWords f (push x) = push (f x)
-inWords f (swap x) = swap (f x)
-inWords f (below x) = below (f x)
-inWords f (back x) = back (f x)
+-- a change of a stack in numbers: as the code passes it on, and as it is carried out
+abbrev pub changeOf : {A : Type 0} → (A → ℕ) → Changing A → Change
+changeOf f keep = Keep
+changeOf f (push x) = Push (f x)
+changeOf f (swap x) = Swap (f x)
+changeOf f (below x) = Under (f x)
+changeOf f (back x) = Back (f x)
 
--- the first number after a step
-unfoldable pub headAfter : Head → Entry → Out → Head
-headAfter h e x = record {
-  at = h .at + suc (extra e + x .next .jump);
-  depth = heightAfter roomF (x .frames) (h .depth);
-  nest = heightAfter roomL (x .levels) (h .nest);
-  permits = permitsAfter (x .placing) (h .cut) (h .permits);
-  denies = deniesAfter (x .placing) (h .cut) 1000 (h .denies);
-  cut = cutAfter (x .placing) (h .cut);
-  reg = x .next .reg;
-  ands = x .next .ands;
-  ors = x .next .ors;
-  sections = x .next .sections;
-  over = x .over;
+abbrev pub changingOf : Change → Changing ℕ
+changingOf Keep = keep
+changingOf (Push n) = push n
+changingOf (Swap n) = swap n
+changingOf (Under n) = below n
+changingOf (Back n) = back n
+
+abbrev pub inWords : {A : Type 0} → (A → ℕ) → Changing A → Changing ℕ
+inWords f z = changingOf (changeOf f z)
+
+-- the first number after a step past so many further entries, with so many policies and sets and so many conditions open
+abbrev pub headTo : Head → ℕ → ℕ → ℕ → Next → Bool → Placing → Head
+headTo h further depth nest n over z = record {
+  at = h .at + suc (further + n .jump);
+  depth = depth;
+  nest = nest;
+  permits = permitsAfter z (h .cut) (h .permits);
+  denies = deniesAfter z (h .cut) 1000 (h .denies);
+  cut = cutAfter z (h .cut);
+  reg = n .reg;
+  ands = n .ands;
+  ors = n .ors;
+  sections = n .sections;
+  over = over;
 }
+
+unfoldable pub headAfter : Head → Entry → Out → Head
+headAfter h e x =
+    headTo h (extra e) (heightAfter roomF (x .frames) (h .depth)) (heightAfter roomL (x .levels) (h .nest)) (x .next) (x .over) (x .placing)
 
 -- what a step leaves
 unfoldable pub after : Head → Entry → Out → State → State

@@ -66,11 +66,7 @@ fn told_to(l: Level, v: Truth) -> Level
 fn in_register(t: Truth) -> Decision
     ensures { λ r. ⌜ r ≡ through t ⌝ }
 {
-    match t {
-        Truth::True => Decision::Permit,
-        Truth::False => Decision::NotApplicable,
-        Truth::Unknown => Decision::Indeterminate,
-    }
+    meaning::under(t, Decision::Permit)
 }
 
 pub fn tell_level(v: Truth, n: u64, nest: u64, l: Level, d: Decision) -> Move

@@ -33,7 +33,6 @@ use meaning::Decision;
 use meaning::Effect;
 use meaning::Test;
 ghost use mathlib.Core.Path.{_≡_};
-ghost use mathlib.Core.Bool.{false};
 ghost use Prim.Native.Nat.{suc, _+_, _-_, _/_, _%_, _<_, max, min};
 ghost use lib.Dec.{leb, ltb, eqb};
 ghost use lib.ListN.{length, getD};

@@ -30,6 +30,7 @@ use Rattle.programme.specs.Core.{Changing, keep, push, swap, below, back, Out, 
 use Rattle.programme.specs.Machine.{roomF, roomL, stackAfter, copies, placesAfter}
 use Rattle.programme.specs.Layout.{frameWord, levelWord, fetch}
 use Rattle.programme.specs.Step.{inWords, after, seen, mayStep, stepOf, isOver, freshOf}
+use Rattle.programme.proofs.Stacks.{stack-length, places-length}
 use Rattle.run.specs.Run.{goOn, runOf}
 use Rattle.promises.specs.Place.{headOf, Place, frame, level, place, Sized, There, held, touched, In}
 use Rattle.promises.specs.Sight.{asked, Sight, sightOf, headIn, entryIn, outIn, mayIn, firstAfter, Source, stays, number, from, given, inStack, inPlaces, sourceOf, BySight, AtMostEleven, Obliges, Plain, Puts, Within, TouchesNoMore, ElseStays, Alike, Local, StaysSized, RunsStaySized, FreshSized}
@@ -334,40 +335,6 @@ local p q g h s t ss st w =
     )
 
 -- how many numbers
-stack-length : (room : ℕ) (z : Changing ℕ) (n : ℕ) (xs : List ℕ) → length (stackAfter room z n xs) ≡ length xs
-stack-length room keep n xs = refl
-stack-length room (push v) n xs = go (ltb (suc n) room)
-  where
-    go : (b : Bool) → length (if b (set xs (suc n) v) xs) ≡ length xs
-    go true = length-set xs (suc n) v
-    go false = refl
-stack-length room (swap v) n xs = length-set xs n v
-stack-length room (below v) n xs = length-set xs (n - 1) v
-stack-length room (back v) n xs = length-set xs (n - 1) v
-
-copies-length : (n c m : ℕ) (xs : List ℕ) → length (copies n c m xs) ≡ length xs
-unfolding copies
-copies-length zero c m xs = refl
-copies-length (suc n) c m xs = copies-length n c (suc m) (set xs m (getD xs (c + m) 0)) ∙ length-set xs m (getD xs (c + m) 0)
-
-places-length : (z : Placing) (c p d : ℕ) (xs : List ℕ) → length (placesAfter z c p d xs) ≡ length xs
-places-length Rest c p d xs = refl
-places-length (AddPermit n) c p d xs = go (ltb p c)
-  where
-    go : (b : Bool) → length (if b (set xs p n) xs) ≡ length xs
-    go true = length-set xs p n
-    go false = refl
-places-length (AddDeny n) c p d xs = go (ltb (c + d) (length xs))
-  where
-    go : (b : Bool) → length (if b (set xs (c + d) n) xs) ≡ length xs
-    go true = length-set xs (c + d) n
-    go false = refl
-places-length (FallPermit a) c p d xs = refl
-places-length (FallDeny b) c p d xs = refl
-places-length (FallBoth a b) c p d xs = refl
-places-length (Cut n) c p d xs = refl
-places-length (Down n) c p d xs = copies-length n c p xs
-
 pub stays-sized : StaysSized
 unfolding stepOf after
 stays-sized p g s w = record {

@@ -3,29 +3,30 @@ use Prim.Native.Nat.{ℕ, _+_, _<_, _≤_}
 use mathlib.Core.Path.{_≡_, refl, sym, ap, _∙_}
 use mathlib.Core.List.{List, [], _∷_, _++_, append-assoc, append-nil}
 use lib.ListN.{length, getD, set, take, drop, length-append, length-drop}
-use lib.Seq.{take-at, drop-at, drop-drop, take-length, drop-length}
+use lib.Seq.{take-at, drop-at, drop-drop, take-all, take-length, drop-length}
 use native.Mathlib.Omega.{arith}
 use borrow.Author.Tests.{lt-ltb, le-ltb}
 use borrow.Rule.Slice.PartMut.{putMid}
 use Rattle.record.specs.Refusals.{noRoom, refusalNumber}
 use Rattle.record.specs.declared.Refusal.{Refusal}
+use Rattle.record.proofs.Filling.{Filled, copy-done}
 use Rattle.meaning.specs.declared.Decision.{Decision}
 use Rattle.programme.specs.declared.State.{State}
 use Rattle.programme.specs.Step.{stateOf, freshOf}
 use Rattle.run.specs.Tick.{tickOf}
 use Rattle.run.specs.declared.kinds.Answer.the-variants.{Running, Finished, Refused}
 use Rattle.run.specs.declared.kinds.Tick.{Tick}
+use Rattle.run.proofs.Bounds.{Small, tick-small}
 use Rattle.translator.specs.Translate.{translateOf, leaves}
 use Rattle.translator.specs.declared.Translated.{Translated}
 use Rattle.translator.specs.declared.Translated.the-variants as translated
 use Rattle.rig.specs.Rig.{noState, stateIn, numbersOf, over, call, put, freshCall, runningNumber, finishedNumber, tickIn, tickCall, translatedNumber}
-use Rattle.rig.proofs.Bounds.{Small, tick-small, long-enough, translate-small}
+use Rattle.rig.proofs.Bounds.{long-enough, translate-small}
 
 -- a copy that has come to its end
-pub copied : (xs d out : List ℕ) (i : ℕ) → length xs ≡ length d → i ≡ length d → out ≡ take i xs ++ drop i d → out ≡ xs
-copied xs d out i same end e =
-    let f : i ≡ length xs = end ∙ sym same in
-    e ∙ rw (ap (λ k. drop k d) end, drop-length d, append-nil, f) (take-length xs)
+pub copied-all : (xs d out : List ℕ) (i : ℕ) → length xs ≡ length d → i ≡ length d → Filled d 0 xs i out → out ≡ xs
+copied-all xs d out i same end w =
+    copy-done (length d) w end ∙ rw (drop-length, append-nil, ← same) (take-length xs)
 
 -- the state that lent numbers and places hold
 module _ (ns ps : List ℕ) where
@@ -37,10 +38,10 @@ module _ (ns ps : List ℕ) where
   unfolding stateIn
   few-places enough few e = rw (le-ltb _ _ enough, lt-ltb _ _ few) e
 
-  pub held : {fs ls hs : List ℕ} → 33 ≤ length ns → 1000 ≤ length ps → fs ≡ take 17 (drop 1 ns) → ls ≡ take 15 (drop 18 ns) → hs ≡ take 1000 ps
+  pub held : {fs ls hs : List ℕ} → 33 ≤ length ns → 1000 ≤ length ps → fs ≡ take 17 (drop 1 ns) → ls ≡ take 15 (drop 18 ns) → hs ≡ take 1000 ps ++ []
       → stateOf (getD ns 0 0) fs ls hs ≡ stateIn ns ps
   unfolding stateIn
-  held numbers places f l h = rw (le-ltb _ _ numbers, le-ltb _ _ places, f, l, h) refl
+  held numbers places f l h = rw (le-ltb _ _ numbers, le-ltb _ _ places, f, l, h, append-nil) refl
 
 -- the numbers of a state that are put into them: the first number, the frames, the levels
 module _ (ns : List ℕ) (h : ℕ) (fs : List ℕ) (enough : 33 ≤ length ns) (frames : length fs ≡ 17) where
@@ -64,8 +65,8 @@ module _ (ns : List ℕ) (h : ℕ) (fs : List ℕ) (enough : 33 ≤ length ns) (
     pub put-length : length (putMid 18 15 (putMid 1 17 (set ns 0 h) ms) os) ≡ length ns
     put-length = ap length put-numbers ∙ omega (arith, length-append (h ∷ (fs ++ ls)) (drop (length (h ∷ (fs ++ ls))) ns), length-drop (length (h ∷ (fs ++ ls))) ns, length-append fs ls)
 
-pub put-places : (ps hs : List ℕ) {ms : List ℕ} → length hs ≡ 1000 → ms ≡ hs → ms ++ drop 1000 ps ≡ over hs ps
-put-places ps hs long e = rw (e, long) refl
+pub put-places : (ps hs : List ℕ) {ms : List ℕ} → length hs ≡ 1000 → ms ≡ take 1000 hs ++ drop 1000 ps → ms ≡ over hs ps
+put-places ps hs long e = rw (e, long, take-all 1000 hs (omega arith)) refl
 
 -- the fresh state
 module _ (ns ps : List ℕ) where
@@ -89,17 +90,17 @@ module _ (p q ns ps : List ℕ) (b : ℕ) (out : List ℕ) {s : State} {t : Tick
   unfolding tickIn
   is-tick = rw held at ticked
 
-  small : Small (stateIn ns ps) (t .answer) (t .steps)
+  small : (t .steps ≤ 8008) × Small (stateIn ns ps) (t .answer)
   small = rw (rw held at ticked) (tick-small p q (stateIn ns ps) b out)
 
   pub refused-line : {r : Refusal} → t .answer ≡ Refused r → r .line ≤ 1000
-  refused-line e = rw e at small
+  refused-line e = rw e at (small .1)
 
   pub running-fits : t .answer ≡ Running → (33 ≤ length ns) × (1000 ≤ length ps) × (t .steps ≤ 8008)
-  running-fits e = let w : Small (stateIn ns ps) Running (t .steps) = rw e at small in let l = long-enough ns ps (w .0) in (l .0, l .1, w .1)
+  running-fits e = let w : Small (stateIn ns ps) Running = rw e at (small .1) in let l = long-enough ns ps w in (l .0, l .1, small .0)
 
   pub finished-fits : {d : Decision} {n : ℕ} → t .answer ≡ Finished d n → (33 ≤ length ns) × (1000 ≤ length ps) × (n ≤ 1000) × (t .steps ≤ 8008)
-  finished-fits {d} {n} e = let w : Small (stateIn ns ps) (Finished d n) (t .steps) = rw e at small in let l = long-enough ns ps (w .0) in (l .0, l .1, w .2, w .1)
+  finished-fits {d} {n} e = let w : Small (stateIn ns ps) (Finished d n) = rw e at (small .1) in let l = long-enough ns ps (w .0) in (l .0, l .1, w .1, small .0)
 
   module _ {o : List ℕ} (left : o ≡ tickOf p q s b out .out) where
     abbrev pub TickIs : ℕ → List ℕ → List ℕ → Type 0

@@ -15,19 +15,8 @@ const NUMBERS: usize = 33;
 
 const PLACES: usize = 1000;
 
-// Copies numbers, and places, from one slice to another as long.
+// Copies numbers from one slice to another as long.
 fn copy_numbers(from: &[u64], to: &mut [u64])
-    requires { ⌜ length (now from) ≡ length (now to) ⌝ }
-    ensures { λ _. ⌜ now (to .exit) ≡ now (from .entry) ⌝ }
-{
-    let mut i: usize = 0;
-    while i < to.len() {
-        to[i] = from[i];
-        i += 1;
-    }
-}
-
-fn copy_places(from: &[u16], to: &mut [u16])
     requires { ⌜ length (now from) ≡ length (now to) ⌝ }
     ensures { λ _. ⌜ now (to .exit) ≡ now (from .entry) ⌝ }
 {
@@ -65,7 +54,7 @@ fn state_in(numbers: &[u64], places: &[u16]) -> State
     let mut held: [u16; 1000] = [0; 1000];
     copy_numbers(&numbers[1..18], &mut frames);
     copy_numbers(&numbers[18..33], &mut levels);
-    copy_places(&places[0..1000], &mut held);
+    record::lent::copy(places, PLACES, &mut held);
     State {
         head: numbers[0],
         frames,
@@ -89,7 +78,7 @@ fn put_places(held: &[u16; 1000], places: &mut [u16])
     requires { ⌜ 1000 ≤ length (now places) ⌝ }
     ensures { λ _. ⌜ now (places .exit) ≡ over (now (held .entry)) (now (places .entry)) ⌝ }
 {
-    copy_places(held, &mut places[0..1000]);
+    record::lent::copy(held, PLACES, places);
 }
 
 // Puts a state into the first of lent numbers and places.

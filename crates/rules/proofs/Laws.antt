@@ -48,7 +48,7 @@ each-child f read b i s {a} h e = go (eqb s 1) refl
         let at : a ≡ i = rw z at e in
         let left : i + s - a ≡ 1 = omega arith in
         let span : spanIn b i 1 ≡ 1 = omega (arith, span-pos b i 1 (omega arith), span-le b i 1) in
-        rw (left, at, one, forest-step b i 1 (omega arith), span, forest-none b (i + 1) 0 refl)
+        rw (left, at, one, forest-step b i 1 (omega arith), span, forest-none b (i + 1) 0 (omega arith))
     go false z =
         let many : s ≡ 1 → ⊥ = eqb-false s 1 z in
         let at : a ≡ i + 1 = rw z at e in
@@ -71,60 +71,54 @@ module _ (b : List ℕ) (g : Bags) (i s : ℕ) {a : ℕ} (h : 0 < s) (e : a ≡ 
 
 -- no records are left
 module _ (b : List ℕ) (i left : ℕ) (h : left ≤ 0) where
-  ends : forest b i left ≡ none
-  ends = forest-none b i left (omega arith)
-
   pub truths-none : {A : Type 0} (f : A → Truth) (read : ℕ → Forest → A) → truths f read (forest b i left) ≡ []
   unfolding truths
-  truths-none f read = rw ends
+  truths-none f read = rw (forest-none b i left h)
 
   pub sections-none : (g : Bags) → sectionsOf g (targetIn b (forest b i left)) ≡ []
   unfolding sectionsOf targetIn
-  sections-none g = rw ends
+  sections-none g = rw (forest-none b i left h)
 
   pub conditions-none : (g : Bags) → conditionsOf g (conditionsIn b (forest b i left)) ≡ []
   unfolding conditionsOf conditionsIn
-  conditions-none g = rw ends
+  conditions-none g = rw (forest-none b i left h)
 
   pub when-none : (g : Bags) {w : Truth} → whenOf g (whenIn b (forest b i left)) ≡ w → True ≡ w
   unfolding whenOf whenIn
-  when-none g p = rw ends at p
+  when-none g p = rw (forest-none b i left h) at p
 
 -- record i is next, with the span s
 module _ (b : List ℕ) (i left : ℕ) {s : ℕ} (h : 0 < left) (e : s ≡ spanIn b i left) where
-  begins : forest b i left ≡ node i (forest b (i + 1) (s - 1)) (forest b (i + s) (left - s))
-  begins = forest-more b i left (λ z. omega arith) e
-
   pub matches-more : (g : Bags) {x : Test} {t : Truth} → x ≡ matchAt b i → t ≡ matchOf g x
       → truths (matchOf g) (matchRead b) (forest b i left) ≡ t ∷ truths (matchOf g) (matchRead b) (forest b (i + s) (left - s))
   unfolding truths matchRead
-  matches-more g ex et = rw (begins, et, ex)
+  matches-more g ex et = rw (forest-more b i left h e, et, ex)
 
   pub conjunctions-more : (g : Bags) {t : Truth} → t ≡ conjunctionOf g (conjunctionAt b i (forest b (i + 1) (s - 1)))
       → truths (conjunctionOf g) (conjunctionAt b) (forest b i left) ≡ t ∷ truths (conjunctionOf g) (conjunctionAt b) (forest b (i + s) (left - s))
   unfolding truths
-  conjunctions-more g et = rw (begins, et)
+  conjunctions-more g et = rw (forest-more b i left h e, et)
 
   pub conditions-more : (g : Bags) {t : Truth} → t ≡ conditionOf g (conditionFrom b i (forest b (i + 1) (s - 1)))
       → conditionsOf g (conditionsIn b (forest b i left)) ≡ t ∷ conditionsOf g (conditionsIn b (forest b (i + s) (left - s)))
   unfolding conditionsOf conditionsIn
-  conditions-more g et = rw (begins, et)
+  conditions-more g et = rw (forest-more b i left h e, et)
 
   -- with its kind
   module _ (g : Bags) {k : ℕ} (ek : k ≡ byteOf b i 0) where
     pub sections-more : {t : Truth} → k ≡ 4 → t ≡ sectionOf g (sectionAt b i (forest b (i + 1) (s - 1)))
         → sectionsOf g (targetIn b (forest b i left)) ≡ t ∷ sectionsOf g (targetIn b (forest b (i + s) (left - s)))
     unfolding sectionsOf targetIn
-    sections-more q et = rw (begins, ← ek, q, et)
+    sections-more q et = rw (forest-more b i left h e, ← ek, q, et)
 
     pub when-here : {t w : Truth} → k ≡ 7 → t ≡ conditionOf g (conditionFrom b i (forest b (i + 1) (s - 1)))
         → whenOf g (whenIn b (forest b i left)) ≡ w → t ≡ w
     unfolding whenOf whenIn
-    when-here q et p = rw (begins, ← ek, q, ← et) at p
+    when-here q et p = rw (forest-more b i left h e, ← ek, q, ← et) at p
 
     pub when-later : {w : Truth} → (k ≡ 7 → ⊥) → whenOf g (whenIn b (forest b i left)) ≡ w → whenOf g (whenIn b (forest b (i + s) (left - s))) ≡ w
     unfolding whenIn
-    when-later q p = rw (begins, ← ek, ne-eqb k 7 q) at p
+    when-later q p = rw (forest-more b i left h e, ← ek, ne-eqb k 7 q) at p
 
 -- the first record is no section
 pub sections-over : (b : List ℕ) (i left : ℕ) (g : Bags) {k : ℕ} → 0 < left → k ≡ byteOf b i 0 → (k ≡ 4 → ⊥) → sectionsOf g (targetIn b (forest b i left)) ≡ []
@@ -159,7 +153,7 @@ module _ (b : List ℕ) (g : Bags) (i s : ℕ) {k : ℕ} (e : k ≡ byteOf b i 1
       → t ≡ conditionOf g (conditionFrom b (i + 1) (forest b (i + 1 + 1) (n - 1))) → u ≡ notOf t
       → u ≡ conditionOf g (conditionFrom b i (forest b (i + 1) (s - 1)))
   unfolding conditionOf conditionAt conditionsIn
-  not-more q z h en et eu = rw (begins b (i + 1) (s - 1) (omega arith) en, ← e, q, ← et) eu
+  not-more q z h en et eu = rw (forest-more b (i + 1) (s - 1) (omega arith) en, ← e, q, ← et) eu
 
 -- a rule by its target
 module _ (b : List ℕ) (g : Bags) (i : ℕ) (kids : Forest) {x : Truth} (e : x ≡ targetOf g (targetIn b kids)) where
@@ -188,7 +182,7 @@ rules-all b g f a r er e = rw (e, ← er) (result-right a (ruleChildren g (rules
 pub rules-end : (b : List ℕ) (g : Bags) (i left : ℕ) (a : Algorithm) (acc : Acc) {d w : Decision} → left ≤ 0 → d ≡ result a acc
     → ruled b g a acc (forest b i left) ≡ w → d ≡ w
 unfolding ruled walk ruleChildren rulesIn
-rules-end b g i left a acc h ed p = ed ∙ (rw (ends b i left h) at p)
+rules-end b g i left a acc h ed p = ed ∙ (rw (forest-none b i left h) at p)
 
 -- over rules no algorithm is only-one-applicable, so a rule is taken in by its decision
 pub not-only : (a : Algorithm) (r : OverRules) → a ≡ overRules r → isOnly a ≡ false
@@ -209,13 +203,13 @@ module _ (b : List ℕ) (g : Bags) (i left : ℕ) (a : Algorithm) (acc : Acc) {s
     (some : 0 < left) (e : s ≡ spanIn b i left) (ek : k ≡ byteOf b i 0) (p : ruled b g a acc (forest b i left) ≡ w) where
   pub rules-skip : (k ≡ 3 → ⊥) → ruled b g a acc (forest b (i + s) (left - s)) ≡ w
   unfolding ruled rulesIn
-  rules-skip q = rw (begins b i left some e, ← ek, ne-eqb k 3 q) at p
+  rules-skip q = rw (forest-more b i left some e, ← ek, ne-eqb k 3 q) at p
 
   module _ {c : ℕ} {f : Effect} {d : Decision} {next : Acc} {t : Bool} (q : k ≡ 3) (o : isOnly a ≡ false) (ec : c ≡ byteOf b i 1) (ef : f ≡ effectOf c)
       (ed : d ≡ ruleOf g (ruleAt b i (forest b (i + 1) (s - 1)))) (en : next ≡ absorb a acc f d) (et : t ≡ settled a next) where
     more : result a (if t next (walk a next (ruleChildren g (rulesIn b (forest b (i + s) (left - s)))))) ≡ w
     unfolding ruled rulesIn ruleChildren walk
-    more = rw et (rw (begins b i left some e, ← ek, q, takes-rule b g i (forest b (i + 1) (s - 1)) a acc o ec ef ed en) at p)
+    more = rw et (rw (forest-more b i left some e, ← ek, q, takes-rule b g i (forest b (i + 1) (s - 1)) a acc o ec ef ed en) at p)
 
     pub rules-stop : {x : Decision} → t ≡ true → x ≡ result a next → x ≡ w
     rules-stop z ex = ex ∙ (rw z at more)

@@ -1,5 +1,5 @@
 -- Truths joined one after another: what a loop over parts keeps, when it may stop, and how it ends. Assumes nothing.
-use mathlib.Core.Path.{_≡_, refl, sym, ap, _∙_}
+use mathlib.Core.Path.{_≡_, refl, sym, _∙_}
 use mathlib.Core.Bool.{Bool, true, false, not}
 use mathlib.Core.List.{List, [], _∷_}
 use Rattle.record.specs.Choose.{if}

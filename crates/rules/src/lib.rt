@@ -12,8 +12,8 @@ ghost use Rattle.record.specs.Bytes.{size};
 ghost use Rattle.record.specs.Choose.{if};
 ghost use Rattle.record.specs.Forest.{forest};
 ghost use Rattle.meaning.specs.Logic.{isTrue, isFalse, andOf, orOf};
-ghost use Rattle.meaning.specs.Meaning.{conjunctionOf, sectionOf, targetOf, comparisonOf, conditionOf, under, decisionOf, whenOf, ruleOf, overRules, combine, ruleChildren};
-ghost use Rattle.meaning.specs.Reading.{keyAt, testAt, matchAt, comparisonAt, conjunctionAt, sectionAt, targetIn, conditionFrom, conditionsIn, whenIn, effectOf, ruleAt, rulesIn, rulesBy, bagsOf};
+ghost use Rattle.meaning.specs.Meaning.{conjunctionOf, sectionOf, targetOf, comparisonOf, conditionOf, whenOf, ruleOf, overRules, combine, ruleChildren};
+ghost use Rattle.meaning.specs.Reading.{keyAt, testAt, matchAt, comparisonAt, conjunctionAt, sectionAt, targetIn, conditionFrom, whenIn, effectOf, ruleAt, rulesIn, rulesBy, bagsOf};
 
 // The key of the match or comparison at record i: bytes 4 to 7, without must-be-present.
 fn key_at(book: &[u8], i: usize) -> u32
@@ -250,27 +250,6 @@ fn effect_of(choice: usize) -> Effect
     Effect::Denies
 }
 
-// The decision that an effect asks for.
-fn decision_of(e: Effect) -> Decision
-    ensures { λ r. ⌜ r ≡ decisionOf e ⌝ }
-{
-    match e {
-        Effect::Permits => Decision::Permit,
-        Effect::Denies => Decision::Deny,
-    }
-}
-
-// The decision d where the condition is True.
-fn judged(t: Truth, d: Decision) -> Decision
-    ensures { λ r. ⌜ r ≡ under t d ⌝ }
-{
-    match t {
-        Truth::True => d,
-        Truth::False => Decision::NotApplicable,
-        Truth::Unknown => Decision::Indeterminate,
-    }
-}
-
 // The rule at record i.
 fn rule(book: &[u8], request: &[u8], i: usize, s: usize) -> Decision
     requires { ⌜ (0 < s) × ((i + s) * size ≤ length (now book)) ⌝ }
@@ -282,7 +261,7 @@ fn rule(book: &[u8], request: &[u8], i: usize, s: usize) -> Decision
         Truth::Unknown => Decision::Indeterminate,
         Truth::True => {
             let e = effect_of(record::byte(book, i, 1));
-            judged(when(book, request, i + 1, s - 1), decision_of(e))
+            meaning::under(when(book, request, i + 1, s - 1), meaning::decision_of(e))
         }
     }
 }

@@ -2,10 +2,10 @@
 use Prim.Native.Nat.{ℕ, zero, suc, _+_, _-_, _<_, _≤_}
 use mathlib.Core.Path.{_≡_, refl, sym, ap, _∙_}
 use mathlib.Core.Bool.{Bool, true, false}
-use mathlib.Core.List.{List, [], _∷_, _++_, append-assoc, append-nil}
+use mathlib.Core.List.{List, _++_}
 use lib.Dec.{ltb, leb}
-use lib.ListN.{length, getD, set, take, drop, replicate, length-append, length-take, length-drop, length-replicate, take-append-drop, replicate-append-replicate}
-use lib.Seq.{take-suc, drop-cons, set-at, take-at, drop-length, length-take-le}
+use lib.ListN.{length, take, drop, replicate, length-append, length-take, length-drop}
+use lib.Seq.{take-at, length-take-le}
 use native.Mathlib.Nat.{sub-zero, zero-add, add-zero, add-assoc}
 use native.Mathlib.Numerals.{add-one}
 use native.Mathlib.Omega.{arith}
@@ -151,35 +151,7 @@ admit-parts n head k a e =
     let w = both-parts (leb n 8008) (allowed head) (r .1) in
     (leb-true _ _ (w .0), w .1)
 
--- an output that is filled from its first place on: the places before i hold xs
-put-next : (xs d : List ℕ) (i v : ℕ) → length xs ≡ i → i < length d → set (xs ++ drop i d) i v ≡ (xs ++ (v ∷ [])) ++ drop (i + 1) d
-put-next xs d i v e l =
-    rw (drop-cons d i 0 l, set-at xs (getD d i 0) (drop (suc i) d) v i e, add-one)
-    (sym (append-assoc xs (v ∷ []) (drop (suc i) d)))
-
-pub copy-next : (xs d out : List ℕ) (i : ℕ) → out ≡ take i xs ++ drop i d → i < length xs → i < length d → set out i (getD xs i 0) ≡ take (i + 1) xs ++ drop (i + 1) d
-copy-next xs d out i e l m =
-    let f : take (i + 1) xs ≡ take i xs ++ (getD xs i 0 ∷ []) = rw add-one (take-suc xs i 0 l) in
-    rw (e, f) (put-next (take i xs) d i (getD xs i 0) (length-take-le i xs (omega arith)) m)
-
-module _ (d : List ℕ) (from : ℕ) where
-  abbrev pub Cleared : List ℕ → ℕ → Type 0
-  Cleared out i = out ≡ (take from d ++ replicate (i - from) 0) ++ drop i d
-
-  pub clear-start : Cleared d from
-  clear-start =
-      let z : from - from ≡ 0 = omega arith in
-      rw (z, append-nil, take-append-drop) refl
-
-  pub clear-next : (out : List ℕ) (i : ℕ) → Cleared out i → from ≤ i → i < length d → Cleared (set out i 0) (i + 1)
-  clear-next out i e l m =
-      let k : i + 1 - from ≡ i - from + 1 = omega arith in
-      rw (e, k, ← replicate-append-replicate, ← append-assoc)
-      (put-next (take from d ++ replicate (i - from) 0) d i 0 (simp (length-append, length-take, length-replicate) (omega arith)) m)
-
-  pub clear-end : (out : List ℕ) (i : ℕ) → Cleared out i → i ≡ length d → out ≡ take from d ++ replicate (length d - from) 0
-  clear-end out i e l = e ∙ rw (l, drop-length, append-nil) refl
-
+-- obligations copied first, then zeros
 pub filled : (xs d m out : List ℕ) (n : ℕ) → n ≤ length xs → n ≤ length d → m ≡ take n xs ++ drop n d → out ≡ take n m ++ replicate (length m - n) 0
     → out ≡ take n xs ++ replicate (length d - n) 0
 filled xs d m out n k l e f =

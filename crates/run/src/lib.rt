@@ -40,7 +40,7 @@ ghost use mathlib.Core.Path.{_≡_};
 ghost use mathlib.Core.Bool.{true};
 ghost use mathlib.Core.List.{_++_};
 ghost use Prim.Native.Nat.{_-_, _≤_};
-ghost use lib.ListN.{length, take, drop, replicate};
+ghost use lib.ListN.{length, take, replicate};
 ghost use Rattle.record.specs.Choose.{if};
 ghost use Rattle.meaning.specs.Reading.{bagsOf};
 ghost use Rattle.programme.specs.Layout.{allowed};
@@ -208,38 +208,14 @@ fn answer(h: Head) -> Answer
     Answer::Finished(decision, count(h))
 }
 
-// The first places into the output.
-fn copy(places: &[u16], count: usize, out: &mut [u16])
-    requires { ⌜ (count ≤ length (now places)) × (count ≤ length (now out)) ⌝ }
-    ensures { λ r. ⌜ now (out .exit) ≡ take count (now (places .entry)) ++ drop count (now (out .entry)) ⌝ }
-{
-    let mut i: usize = 0;
-    while i < count {
-        out[i] = places[i];
-        i += 1;
-    }
-}
-
-// Zero in every place of the output from one on.
-fn clear(out: &mut [u16], from: usize)
-    requires { ⌜ from ≤ length (now out) ⌝ }
-    ensures { λ r. ⌜ now (out .exit) ≡ take from (now (out .entry)) ++ replicate (length (now (out .entry)) - from) 0 ⌝ }
-{
-    let mut i: usize = from;
-    while i < out.len() {
-        out[i] = 0;
-        i += 1;
-    }
-}
-
 // The obligations first, and zero in every other place.
 fn fill(places: &[u16; 1000], count: u64, out: &mut [u16])
     requires { ⌜ (count ≤ 1000) × (1000 ≤ length (now out)) ⌝ }
     ensures { λ r. ⌜ now (out .exit) ≡ take count (now (places .entry)) ++ replicate (length (now (out .entry)) - count) 0 ⌝ }
 {
     let n = count as usize;
-    copy(places, n, out);
-    clear(out, n);
+    record::lent::copy(places, n, out);
+    record::lent::clear(out, n);
 }
 
 // A refused tick returns the state that it was given, and 0 steps.

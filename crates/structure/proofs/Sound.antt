@@ -1,7 +1,7 @@
 -- Laws of sound subtrees: what the first of some sound records says, and the order of children. Assumes nothing.
 use mathlib.Core.Path.{_≡_, refl, sym, _∙_}
 use mathlib.Core.Bool.{Bool, true, false}
-use mathlib.Core.List.{List, _++_, append-assoc}
+use mathlib.Core.List.{List}
 use Prim.Native.Nat.{ℕ, zero, suc, _+_, _-_, _≤_, _<_}
 use native.Mathlib.Omega.{arith}
 use lib.Dec.{ltb}
@@ -16,7 +16,7 @@ use Rattle.fields.specs.declared.Kind.{Kind}
 use Rattle.fields.proofs.First.{by}
 use Rattle.judge.specs.Place.{rankOf, rankAt, standsOk}
 use Rattle.judge.proofs.Laws.{span-end, stands-parts, all-but}
-use Rattle.structure.specs.Subtrees.{Subtrees, noSubtree, subtree, recordCount, recordAt, subtreesOf, bytesOf, joined, SameRecord}
+use Rattle.structure.specs.Subtrees.{Subtrees, noSubtree, subtree, recordCount, recordAt, subtreesOf, joined, SameRecord}
 use Rattle.structure.specs.Sound.{Parent, asParent, recordOk, childOk, sound, rankAfter, soundAt}
 use Rattle.structure.proofs.Records.{MayStand, record-bytes, record-length, record-but-span, record-parts, parts-record, child-parts, parts-child, heads-same, stand-same, rank-same, parent-same}
 use Rattle.structure.proofs.Subtrees.{EndsThere, subtrees-none, subtrees-step, subtrees-stated, subtrees-cut, count-subtrees}
@@ -161,12 +161,6 @@ sound-joined u e (subtree r kids rest) y =
     four true true false d f = refl
     four true false c d f = refl
     four false b c d f = refl
-
-pub bytes-joined : (x y : Subtrees) → bytesOf (joined x y) ≡ bytesOf x ++ bytesOf y
-unfolding joined bytesOf
-bytes-joined noSubtree y = refl
-bytes-joined (subtree r kids rest) y =
-    rw (bytes-joined rest y, ← append-assoc (bytesOf kids) (bytesOf rest) (bytesOf y), ← append-assoc r (bytesOf kids ++ bytesOf rest) (bytesOf y)) refl
 
 -- records after records: joined where the first are sound, cut where the first end
 module _ (u : Parent) (e : ℕ) (b : List ℕ) (i s t : ℕ) where

@@ -1,8 +1,8 @@
 -- Records that state another span. Assumes nothing.
-use mathlib.Core.Path.{_≡_, refl, sym, _∙_}
+use mathlib.Core.Path.{_≡_, refl, _∙_}
 use mathlib.Core.Bool.{Bool, true, false}
 use mathlib.Core.List.{List}
-use Prim.Native.Nat.{ℕ, suc, _+_, _*_, _/_, _%_, _≤_, _<_}
+use Prim.Native.Nat.{ℕ, _/_, _%_, _≤_, _<_}
 use native.Mathlib.Omega.{arith}
 use lib.Dec.{leb}
 use lib.ListN.{length, getD, set, length-set}
@@ -14,8 +14,7 @@ use Rattle.fields.specs.Fields.{kindAt, zeros, plainOk, rulesOf, fieldOk}
 use Rattle.fields.specs.declared.Kind.{Kind}
 use Rattle.fields.specs.declared.Kind.the-variants.{PolicySet, Policy, Rule, Section, Conjunction, Match, Logic, Not, Comparison, Obligation, Nothing}
 use Rattle.structure.specs.Subtrees.{withSpan, SameButSpan}
-use Rattle.structure.specs.Sound.{recordOk}
-use Rattle.structure.proofs.Records.{parts-record, kind-same, zeros-same}
+use Rattle.structure.proofs.Records.{kind-same, zeros-same}
 
 -- the kinds whose span may be any number from 1 on
 abbrev pub anySpan : Kind → Bool
@@ -60,12 +59,6 @@ module _ (r : List ℕ) (s : ℕ) where
   unfolding withSpan
   with-length = length-set (set r 2 (s / 256)) 3 (s % 256) ∙ length-set r 2 (s / 256)
 
-  pub with-other : SameButSpan r 0 (withSpan r s) 0
-  unfolding withSpan
-  with-other k l x y =
-      let q : 0 * size + k ≡ k = omega arith in
-      rw q (sym (getD-set-other (set r 2 (s / 256)) 3 k (s % 256) 0 y ∙ getD-set-other r 2 k (s / 256) 0 x))
-
   pub with-span : length r ≡ size → spanOf (withSpan r s) 0 ≡ s
   unfolding withSpan spanOf
   with-span l =
@@ -82,10 +75,3 @@ module _ (r : List ℕ) (s : ℕ) where
       let two : s / 256 ≡ getD r 2 0 = omega arith in
       let three : s % 256 ≡ getD r 3 0 = omega arith in
       rw (two, three, set-getD r 2 0, set-getD r 3 0) refl
-
--- so a policy set, policy, rule, and or or keeps its rules with any number of records below it
-pub spanned-record : (r : List ℕ) (n : ℕ) → length r ≡ size → anySpan (kindAt r 0) ≡ true → fieldOk r 0 ≡ true → recordOk (withSpan r (suc n)) n ≡ true
-spanned-record r n l a e =
-    let s = with-span r (suc n) l in
-    parts-record (withSpan r (suc n)) n (with-length r (suc n) ∙ l)
-    (record { fields = fields-kept r 0 (withSpan r (suc n)) 0 (with-other r (suc n)) a e (omega arith); span = s })

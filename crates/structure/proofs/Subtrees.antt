@@ -15,7 +15,7 @@ use Rattle.structure.proofs.Records.{span-same, record-bytes, record-le
 module _ (b : List ℕ) (i : ℕ) where
   pub subtrees-none : subtreesOf b i 0 ≡ noSubtree
   unfolding subtreesOf subtreesIn
-  subtrees-none = rw (forest-none b i 0 refl) refl
+  subtrees-none = rw (forest-none b i 0 (omega arith)) refl
 
   pub subtrees-step : (left : ℕ) → 0 < left
       → subtreesOf b i left ≡ subtree (recordAt b i) (subtreesOf b (i + 1) (spanIn b i left - 1)) (subtreesOf b (i + spanIn b i left) (left - spanIn b i left))

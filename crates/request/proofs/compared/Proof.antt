@@ -1,5 +1,4 @@
 use borrow.Author.Needs.{needs}
-use mathlib.Core.Path.{sym, _∙_}
 use Rattle.request.proofs.compared.Statement.{statement}
 use Rattle.request.proofs.compared.Tie as tie
 

@@ -11,13 +11,11 @@ returns-2 c = few-places _ _ (c .before .before .if1 .left) (c .before .if2 .tak
 
 returns-3 : tie.Need-returns-3
 returns-3 c =
-    let levelled = c .before .before .before .before .before .before in
-    let framed = levelled .before .before .before .before in
-    held _ _ (framed .before .before .before .before .if1 .left)
-    (framed .before .before .before .if2 .left)
-    (framed .copy-numbers .ensures)
-    (levelled .copy-numbers2 .ensures)
-    (c .before .before .copy-places .ensures)
+    let at-copy = c .before .before in
+    let at-levels = at-copy .before .before .before in
+    let at-frames = at-levels .before .before .before .before in
+    let at-if2 = at-frames .before .before .before in
+    held _ _ (at-if2 .before .if1 .left) (at-if2 .if2 .left) (at-frames .copy-numbers .ensures) (at-levels .copy-numbers2 .ensures) (at-copy .copy .ensures)
 
 pub state-in-spec : {M : Type 1} → statement M
 state-in-spec =
@@ -37,9 +35,6 @@ state-in-spec =
     (λ c. search needs)
     (λ c. search needs)
     (λ c κs. search needs)
-    (λ c. search needs)
-    (λ c. search needs)
-    (λ c. search needs)
     (λ c. search needs)
     (λ c κs. search needs)
     (λ c. search needs)

@@ -1,7 +1,7 @@
 use borrow.Author.Needs.{needs}
 use native.Mathlib.Omega.{arith}
 use mathlib.Core.Path.{_≡_}
-use Prim.Native.Nat.{_+_, _-_, _≤_}
+use Prim.Native.Nat.{_+_, _-_}
 use Rattle.record.specs.Forest.{forest}
 use Rattle.meaning.specs.Logic.{andAll, andOf}
 use Rattle.meaning.specs.Meaning.{matchOf, conjunctionOf}

@@ -10,7 +10,7 @@ returns-2 : tie.Need-returns-2
 returns-2 c = rule-lost _ _ _ _ (c .before .before .target .ensures) (c .enum-told2 .given .1)
 
 returns-3 : tie.Need-returns-3
-returns-3 c = rule-yes _ _ _ _ (c .before .before .before .before .before .before .before .target .ensures) (c .before .before .before .before .before .enum-told3 .given .1) (c .before .before .before .before .byte .ensures .0) (c .before .before .before .effect-of .ensures) (c .before .before .when .ensures) (c .before .decision-of .ensures) (c .judged .ensures)
+returns-3 c = rule-yes _ _ _ _ (c .before .before .before .before .before .before .before .target .ensures) (c .before .before .before .before .before .enum-told3 .given .1) (c .before .before .before .before .byte .ensures .0) (c .before .before .before .effect-of .ensures) (c .before .before .when .ensures) (c .before .decision-of .ensures) (c .under .ensures)
 
 pub rule-spec : {M : Type 1} → statement M
 rule-spec =

@@ -1,55 +1,27 @@
 use borrow.Author.Needs.{needs}
 use native.Mathlib.Omega.{arith}
-use mathlib.Core.Path.{_≡_, refl}
-use mathlib.Core.List.{_++_}
-use Prim.Native.Nat.{_≤_, _-_, _*_}
-use lib.ListN.{length, drop}
-use Rattle.record.specs.Bytes.{size}
+use Prim.Native.Nat.{_≤_, _-_}
+use mathlib.Core.Path.{refl}
 use Rattle.record.specs.Table.{tab}
-use Rattle.record.proofs.Table.{tab-none, tab-more}
+use Rattle.record.proofs.Filling.{Filled, fill-none, tab-more, tab-done}
 use Rattle.text.specs.Text.{byteAt}
 use Rattle.text.proofs.decode.Statement.{statement}
 use Rattle.text.proofs.decode.Tie as tie
 
 abbrev Inv-loop : tie.InvT-loop
-Inv-loop text n out₀ total i₀ out i = (i ≤ total) × (out ≡ tab (byteAt text) i ++ drop i out₀) × (length out ≡ length out₀)
+Inv-loop text n out₀ total i₀ out i = (i ≤ total) × Filled out₀ 0 (tab (byteAt text) total) i out
 
 abbrev μ-loop : tie.MeasureT-loop
 μ-loop text n out₀ total i₀ out i = total - i
 
-mul-total : tie.Need-mul-total Inv-loop μ-loop
-mul-total c = search needs
-
 loop-holds : tie.Need-loop-holds Inv-loop μ-loop
-loop-holds c = (search needs, tab-none _ _, refl)
-
-byte-at-requires : tie.Need-byte-at-requires Inv-loop μ-loop
-byte-at-requires c κs = search needs
-
-slice-write-out : tie.Need-slice-write-out Inv-loop μ-loop
-slice-write-out c = search needs
-
-add-i : tie.Need-add-i Inv-loop μ-loop
-add-i c = search needs
-
-loop-less : tie.Need-loop-less Inv-loop μ-loop
-loop-less c = search needs
+loop-holds c = (search needs, fill-none _ _ _ refl)
 
 loop-again : tie.Need-loop-again Inv-loop μ-loop
-loop-again c =
-    let a = c .before .before .before .before .before .args in (
-      search needs,
-      rw (c .before .before .loop .inv .1, c .byte-at .ensures) (tab-more (byteAt (a .text .now)) (a .out .now) (c .before .before .loop .i) (search needs)),
-      search needs,
-    )
-
-same-length : tie.Need-same-length Inv-loop μ-loop
-same-length c = search needs
+loop-again c = (search needs, tab-more _ _ (c .before .before .loop .inv .1) (c .before .loop-test .taken) (omega arith) (c .byte-at .ensures))
 
 returns : tie.Need-returns Inv-loop μ-loop
-returns c =
-    let e : c .before .loop .i ≡ size * c .before .before .before .before .args .n = omega arith in
-    rw e at (c .before .loop .inv .1)
+returns c = tab-done _ _ (c .before .loop .inv .1) (omega arith)
 
 pub decode-spec : {M : Type 1} → statement M
 decode-spec =
@@ -57,12 +29,12 @@ decode-spec =
     (tie.spec
     Inv-loop
     μ-loop
-    mul-total
+    (λ c. search needs)
     loop-holds
-    byte-at-requires
-    slice-write-out
-    add-i
-    loop-less
+    (λ c κs. search needs)
+    (λ c. search needs)
+    (λ c. search needs)
+    (λ c. search needs)
     loop-again
-    same-length
+    (λ c. search needs)
     returns)

@@ -1,54 +1,27 @@
 use borrow.Author.Needs.{needs}
 use native.Mathlib.Omega.{arith}
-use mathlib.Core.Path.{_≡_, refl}
-use mathlib.Core.List.{_++_}
-use Prim.Native.Nat.{_≤_, _-_, _*_}
-use lib.ListN.{length, drop}
-use Rattle.text.specs.Text.{textAt, lineLength}
+use Prim.Native.Nat.{_≤_, _-_}
+use mathlib.Core.Path.{refl}
 use Rattle.record.specs.Table.{tab}
-use Rattle.record.proofs.Table.{tab-none, tab-more}
+use Rattle.record.proofs.Filling.{Filled, fill-none, tab-more, tab-done}
+use Rattle.text.specs.Text.{textAt}
 use Rattle.text.proofs.encode.Statement.{statement}
 use Rattle.text.proofs.encode.Tie as tie
 
 abbrev Inv-loop : tie.InvT-loop
-Inv-loop records n out₀ total i₀ out j = (j ≤ total) × (out ≡ tab (textAt records) j ++ drop j out₀) × (length out ≡ length out₀)
+Inv-loop records n out₀ total j₀ out j = (j ≤ total) × Filled out₀ 0 (tab (textAt records) total) j out
 
 abbrev μ-loop : tie.MeasureT-loop
-μ-loop records n out₀ total i₀ out j = total - j
-
-mul-total : tie.Need-mul-total Inv-loop μ-loop
-mul-total c = search needs
+μ-loop records n out₀ total j₀ out j = total - j
 
 loop-holds : tie.Need-loop-holds Inv-loop μ-loop
-loop-holds c = (search needs, tab-none _ _, refl)
-
-text-at-requires : tie.Need-text-at-requires Inv-loop μ-loop
-text-at-requires c κs = search needs
-
-slice-write-out : tie.Need-slice-write-out Inv-loop μ-loop
-slice-write-out c = search needs
-
-add-j : tie.Need-add-j Inv-loop μ-loop
-add-j c = search needs
-
-loop-less : tie.Need-loop-less Inv-loop μ-loop
-loop-less c = search needs
+loop-holds c = (search needs, fill-none _ _ _ refl)
 
 loop-again : tie.Need-loop-again Inv-loop μ-loop
-loop-again c =
-    let a = c .before .before .before .before .before .args in (
-      search needs,
-      rw (c .before .before .loop .inv .1, c .text-at .ensures) (tab-more (textAt (a .records .now)) (a .out .now) (c .before .before .loop .j) (search needs)),
-      search needs,
-    )
-
-same-length : tie.Need-same-length Inv-loop μ-loop
-same-length c = search needs
+loop-again c = (search needs, tab-more _ _ (c .before .before .loop .inv .1) (c .before .loop-test .taken) (omega arith) (c .text-at .ensures))
 
 returns : tie.Need-returns Inv-loop μ-loop
-returns c =
-    let e : c .before .loop .j ≡ lineLength * c .before .before .before .before .args .n = omega arith in
-    rw e at (c .before .loop .inv .1)
+returns c = tab-done _ _ (c .before .loop .inv .1) (omega arith)
 
 pub encode-spec : {M : Type 1} → statement M
 encode-spec =
@@ -56,12 +29,12 @@ encode-spec =
     (tie.spec
     Inv-loop
     μ-loop
-    mul-total
+    (λ c. search needs)
     loop-holds
-    text-at-requires
-    slice-write-out
-    add-j
-    loop-less
+    (λ c κs. search needs)
+    (λ c. search needs)
+    (λ c. search needs)
+    (λ c. search needs)
     loop-again
-    same-length
+    (λ c. search needs)
     returns)

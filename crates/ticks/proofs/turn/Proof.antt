@@ -1,6 +1,7 @@
+use native.Mathlib.Omega.{arith}
 use borrow.Author.Needs.{needs}
 use Rattle.ticks.specs.Lines.{afterOf}
-use Rattle.ticks.proofs.Few.{few-steps}
+use Rattle.run.proofs.Bounds.{few-steps}
 use Rattle.ticks.proofs.turn.Statement.{statement}
 use Rattle.ticks.proofs.turn.Tie as tie
 
@@ -14,7 +15,7 @@ slice-aggregate-show : tie.Need-slice-aggregate-show
 slice-aggregate-show c = search needs
 
 show-requires : tie.Need-show-requires
-show-requires c κs = (few-steps _ _ _ _ _ (c .before .before .tick .ensures .0), search needs)
+show-requires c κs = (omega (arith, few-steps _ _ _ _ _ (c .before .before .tick .ensures .0)), search needs)
 
 is-running-requires : tie.Need-is-running-requires
 is-running-requires c κs = search needs

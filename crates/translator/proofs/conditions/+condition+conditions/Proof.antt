@@ -3,8 +3,8 @@ use mathlib.Core.Path.{refl}
 use native.Mathlib.Omega.{arith}
 use borrow.Author.Needs.{needs}
 use Rattle.translator.proofs.Links.{piece-of, linked-at}
-use Rattle.translator.proofs.Emit.{as-is, fits-as, same-as, differs, above, no-more, nothing, behind, three, third-fits, second-fits, first-fits, op-at, closes, opened, condition-zero, condition-high, conditions-none}
-use Rattle.translator.proofs.Turns.{Going, conditionsTo, go-begin, go-again, go-end, conditions-stop, conditions-turn, condition-room, cond-bare, cond-not, cond-parts, first-linked}
+use Rattle.translator.proofs.Emit.{as-is, fits-as, same-as, differs, above, no-more, nothing, three, third-fits, second-fits, first-fits, op-at, closes, opened, condition-zero, condition-high, conditions-none}
+use Rattle.translator.proofs.Turns.{Going, conditionsTo, go-begin, go-less, go-below, go-room, go-again, go-end, conditions-stop, conditions-turn, conditions-grow, cond-bare, cond-not, cond-parts, first-linked}
 use borrow.Fn.Kinds.{In}
 use borrow.Fn.PlainCycle.{Measures, is, falls, and}
 use Rattle.translator.proofs.conditions.condition.Reads as condition
@@ -158,25 +158,24 @@ conditions-condition-requires : (t : ℕ) → conditions-lts.Need-condition-requ
 conditions-condition-requires t c κs =
     let start = c .before .before .before .before .before .before .before in
     let p = piece-of (c .before .before .loop .inv .row) (c .before .loop-test .taken) in
-    (omega (arith, p .from, p .upto, p .inside, start .pre .0, c .before .before .loop .inv .low), (p .upto, omega (arith, p .inside, start .pre .1 .1), omega (arith, p .inside, start .pre .1 .2), condition-room _ (c .before .before .loop .inv) (c .before .loop-test .taken) _ refl (start .pre .1 .3), omega (arith, c .before .before .loop .inv .done .starts, start .pre .1 .4), linked-at p))
+    (omega (arith, p .from, p .upto, p .inside, start .pre .0, c .before .before .loop .inv .low), (p .upto, omega (arith, p .inside, start .pre .1 .1), omega (arith, p .inside, start .pre .1 .2), go-room (conditionsTo _ _) (c .before .before .loop .inv) (conditions-grow _) (c .before .loop-test .taken) (start .pre .1 .3) (λ q k. conditions-turn _ q _ k), omega (arith, c .before .before .loop .inv .done .starts, start .pre .1 .4), linked-at p))
 
 conditions-elder-requires-2 : (t : ℕ) → conditions-lts.Need-elder-requires-2 (conditions-calls t) (conditions-at t) conditions.Post conditions-Inv-loop conditions-μ-loop
 conditions-elder-requires-2 t c κs =
     let turn = c .before .before .before .before in
     let start = turn .before .before .before .before .before .before in
-    let p = piece-of (turn .before .loop .inv .row) (turn .loop-test .taken) in
-    omega (arith, p .upto, p .inside, start .pre .1 .1)
+    go-below (turn .before .loop .inv) (turn .loop-test .taken) (start .pre .1 .1)
 
 conditions-loop-less : (t : ℕ) → conditions-lts.Need-loop-less (conditions-calls t) (conditions-at t) conditions.Post conditions-Inv-loop conditions-μ-loop
 conditions-loop-less t c =
     let turn = c .before .before .before .before .before in
-    piece-of (turn .before .loop .inv .row) (turn .loop-test .taken) .upto
+    go-less (turn .before .loop .inv) (turn .loop-test .taken)
 
 conditions-loop-again : (t : ℕ) → conditions-lts.Need-loop-again (conditions-calls t) (conditions-at t) conditions.Post conditions-Inv-loop conditions-μ-loop
 conditions-loop-again t c =
     let at-condition = c .before .before .before in
     let turn = at-condition .before .before in
-    go-again (conditionsTo _ _) (turn .before .loop .inv) _ _ (turn .loop-test .taken) (conditions-turn _ (piece-of (turn .before .loop .inv .row) (turn .loop-test .taken)) _ (behind (turn .before .loop .inv .done))) (at-condition .condition .ensures) (c .elder2 .ensures)
+    go-again (conditionsTo _ _) (turn .before .loop .inv) _ _ (turn .loop-test .taken) (λ p k. conditions-turn _ p _ k) (at-condition .condition .ensures) (c .elder2 .ensures)
 
 conditions-same-length : (t : ℕ) → conditions-lts.Need-same-length (conditions-calls t) (conditions-at t) conditions.Post conditions-Inv-loop conditions-μ-loop
 conditions-same-length t c = c .before .loop .inv .long

@@ -9,7 +9,7 @@ use Rattle.algorithm.specs.Fold.{isOnly}
 use Rattle.translator.specs.Code.{codeApplies}
 use Rattle.translator.specs.Emit.{obligationsCode, bodyCode}
 use Rattle.translator.proofs.Links.{piece-of, linked-at, linked-below}
-use Rattle.translator.proofs.Turns.{Going, go-begin, go-room, go-again, go-skip, go-end, treesTo, trees-stop, trees-turn, trees-skip, trees-grow, set-to, policy-to, body-to, within-to}
+use Rattle.translator.proofs.Turns.{Going, go-begin, go-less, go-below, go-bytes, go-room, go-again, go-skip, go-end, treesTo, trees-stop, trees-turn, trees-skip, trees-grow, set-to, policy-to, body-to, within-to}
 use Rattle.translator.proofs.Emit.{third-fits, second-fits, first-fits, three, behind, past-body, past-both, nothing, same-as, differs, code-of, concluded, left-by, entered, tree-parts, trees-none}
 use borrow.Author.Tests.{not-true, not-false}
 use borrow.Fn.Kinds.{In}
@@ -171,51 +171,48 @@ trees-loop-holds t c =
 trees-is-party-requires : (t : ℕ) → trees-lts.Need-is-party-requires (trees-calls t) (trees-at t) trees.Post trees-Inv-loop trees-μ-loop
 trees-is-party-requires t c κs =
     let start = c .before .before .before .before .before .before in
-    let p = piece-of (c .before .loop .inv .row) (c .loop-test .taken) in
-    omega (arith, p .upto, p .inside, start .pre .1 .2)
+    go-bytes (c .before .loop .inv) (c .loop-test .taken) (start .pre .1 .2)
 
 trees-elder-requires-2 : (t : ℕ) → trees-lts.Need-elder-requires-2 (trees-calls t) (trees-at t) trees.Post trees-Inv-loop trees-μ-loop
 trees-elder-requires-2 t c κs =
     let turn = c .before .before in
     let start = turn .before .before .before .before .before .before in
-    let p = piece-of (turn .before .loop .inv .row) (turn .loop-test .taken) in
-    omega (arith, p .upto, p .inside, start .pre .1 .1)
+    go-below (turn .before .loop .inv) (turn .loop-test .taken) (start .pre .1 .1)
 
 trees-loop-less : (t : ℕ) → trees-lts.Need-loop-less (trees-calls t) (trees-at t) trees.Post trees-Inv-loop trees-μ-loop
 trees-loop-less t c =
     let turn = c .before .before .before in
-    (piece-of (turn .before .loop .inv .row) (turn .loop-test .taken)) .upto
+    go-less (turn .before .loop .inv) (turn .loop-test .taken)
 
 trees-loop-again : (t : ℕ) → trees-lts.Need-loop-again (trees-calls t) (trees-at t) trees.Post trees-Inv-loop trees-μ-loop
 trees-loop-again t c =
     let turn = c .before .before .before in
-    go-skip (treesTo _ _ _) (turn .before .loop .inv) _ (turn .loop-test .taken) (trees-skip _ _ _ (piece-of (turn .before .loop .inv .row) (turn .loop-test .taken)) (sym (c .before .before .is-party .ensures) ∙ not-true _ (c .before .if2 .taken))) (c .elder2 .ensures)
+    go-skip (treesTo _ _ _) (turn .before .loop .inv) _ (turn .loop-test .taken) (λ p. trees-skip _ _ _ p (sym (c .before .before .is-party .ensures) ∙ not-true _ (c .before .if2 .taken))) (c .elder2 .ensures)
 
 trees-elder-requires-3 : (t : ℕ) → trees-lts.Need-elder-requires-3 (trees-calls t) (trees-at t) trees.Post trees-Inv-loop trees-μ-loop
 trees-elder-requires-3 t c κs =
     let turn = c .before .before .before .before .before .before in
     let start = turn .before .before .before .before .before .before in
-    let p = piece-of (turn .before .loop .inv .row) (turn .loop-test .taken) in
-    omega (arith, p .upto, p .inside, start .pre .1 .1)
+    go-below (turn .before .loop .inv) (turn .loop-test .taken) (start .pre .1 .1)
 
 trees-loop-less-2 : (t : ℕ) → trees-lts.Need-loop-less-2 (trees-calls t) (trees-at t) trees.Post trees-Inv-loop trees-μ-loop
 trees-loop-less-2 t c =
     let turn = c .before .before .before .before .before .before .before in
-    (piece-of (turn .before .loop .inv .row) (turn .loop-test .taken)) .upto
+    go-less (turn .before .loop .inv) (turn .loop-test .taken)
 
 trees-loop-again-2 : (t : ℕ) → trees-lts.Need-loop-again-2 (trees-calls t) (trees-at t) trees.Post trees-Inv-loop trees-μ-loop
 trees-loop-again-2 t c =
     let at-tree = c .before .before .before in
     let at-is-party = at-tree .before .before .before in
     let turn = at-is-party .before in
-    go-again (treesTo _ _ _) (turn .before .loop .inv) _ _ (turn .loop-test .taken) (trees-turn _ _ _ (piece-of (turn .before .loop .inv .row) (turn .loop-test .taken)) _ (sym (at-is-party .is-party .ensures) ∙ not-false _ (at-tree .before .before .if2 .left)) (behind (turn .before .loop .inv .done))) (at-tree .tree .ensures) (c .elder3 .ensures)
+    go-again (treesTo _ _ _) (turn .before .loop .inv) _ _ (turn .loop-test .taken) (λ p k. trees-turn _ _ _ p _ (sym (at-is-party .is-party .ensures) ∙ not-false _ (at-tree .before .before .if2 .left)) k) (at-tree .tree .ensures) (c .elder3 .ensures)
 
 trees-tree-requires : (t : ℕ) → trees-lts.Need-tree-requires (trees-calls t) (trees-at t) trees.Post trees-Inv-loop trees-μ-loop
 trees-tree-requires t c κs =
     let turn = c .before .before .before in
     let start = turn .before .before .before .before .before .before in
     let p = piece-of (turn .before .loop .inv .row) (turn .loop-test .taken) in
-    (omega (arith, p .from, p .upto, p .inside, start .pre .0), (p .upto, omega (arith, p .inside, start .pre .1 .1), omega (arith, p .inside, start .pre .1 .2), go-room (treesTo _ _ _) (turn .before .loop .inv) (trees-grow _ _ _) (turn .loop-test .taken) (start .pre .1 .3) (trees-turn _ _ _ p _ (sym (c .before .before .is-party .ensures) ∙ not-false _ (c .before .if2 .left)) (behind (turn .before .loop .inv .done))), omega (arith, turn .before .loop .inv .done .starts, start .pre .1 .4), linked-at p))
+    (omega (arith, p .from, p .upto, p .inside, start .pre .0), (p .upto, omega (arith, p .inside, start .pre .1 .1), omega (arith, p .inside, start .pre .1 .2), go-room (treesTo _ _ _) (turn .before .loop .inv) (trees-grow _ _ _) (turn .loop-test .taken) (start .pre .1 .3) (λ q k. trees-turn _ _ _ q _ (sym (c .before .before .is-party .ensures) ∙ not-false _ (c .before .if2 .left)) k), omega (arith, turn .before .loop .inv .done .starts, start .pre .1 .4), linked-at p))
 
 trees-same-length : (t : ℕ) → trees-lts.Need-same-length (trees-calls t) (trees-at t) trees.Post trees-Inv-loop trees-μ-loop
 trees-same-length t c = c .before .loop .inv .long

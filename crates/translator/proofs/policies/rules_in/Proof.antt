@@ -1,8 +1,8 @@
 use native.Mathlib.Omega.{arith}
 use borrow.Author.Needs.{needs}
 use Rattle.translator.proofs.Links.{piece-of, linked-at}
-use Rattle.translator.proofs.Turns.{Going, go-begin, go-room, go-again, go-skip, go-end, rulesTo, rules-stop, rules-turn, rules-skip, rules-grow}
-use Rattle.translator.proofs.Emit.{nothing, same-as, differs, behind, rules-none}
+use Rattle.translator.proofs.Turns.{Going, go-begin, go-less, go-below, go-bytes, go-room, go-again, go-skip, go-end, rulesTo, rules-stop, rules-turn, rules-skip, rules-grow}
+use Rattle.translator.proofs.Emit.{nothing, same-as, differs, rules-none}
 use Rattle.translator.proofs.policies.rules_in.Statement.{statement}
 use Rattle.translator.proofs.policies.rules_in.Tie as tie
 
@@ -23,51 +23,48 @@ loop-holds c =
 byte-requires : tie.Need-byte-requires Inv-loop μ-loop
 byte-requires c κs =
     let start = c .before .before .before .before .before .before in
-    let p = piece-of (c .before .loop .inv .row) (c .loop-test .taken) in
-    (search needs, omega (arith, p .upto, p .inside, start .pre .2))
+    (search needs, go-bytes (c .before .loop .inv) (c .loop-test .taken) (start .pre .2))
 
 elder-requires-2 : tie.Need-elder-requires-2 Inv-loop μ-loop
 elder-requires-2 c κs =
     let turn = c .before .before in
     let start = turn .before .before .before .before .before .before in
-    let p = piece-of (turn .before .loop .inv .row) (turn .loop-test .taken) in
-    omega (arith, p .upto, p .inside, start .pre .1)
+    go-below (turn .before .loop .inv) (turn .loop-test .taken) (start .pre .1)
 
 loop-less : tie.Need-loop-less Inv-loop μ-loop
 loop-less c =
     let turn = c .before .before .before in
-    (piece-of (turn .before .loop .inv .row) (turn .loop-test .taken)) .upto
+    go-less (turn .before .loop .inv) (turn .loop-test .taken)
 
 loop-again : tie.Need-loop-again Inv-loop μ-loop
 loop-again c =
     let turn = c .before .before .before in
-    go-skip (rulesTo _ _) (turn .before .loop .inv) _ (turn .loop-test .taken) (rules-skip _ _ (piece-of (turn .before .loop .inv .row) (turn .loop-test .taken)) (differs 3 (c .before .before .byte .ensures .0) (c .before .if2 .taken))) (c .elder2 .ensures)
+    go-skip (rulesTo _ _) (turn .before .loop .inv) _ (turn .loop-test .taken) (λ p. rules-skip _ _ p (differs 3 (c .before .before .byte .ensures .0) (c .before .if2 .taken))) (c .elder2 .ensures)
 
 rule-requires : tie.Need-rule-requires Inv-loop μ-loop
 rule-requires c κs =
     let turn = c .before .before .before in
     let start = turn .before .before .before .before .before .before in
     let p = piece-of (turn .before .loop .inv .row) (turn .loop-test .taken) in
-    (p .upto, omega (arith, p .inside, start .pre .1), omega (arith, p .inside, start .pre .2), go-room (rulesTo _ _) (turn .before .loop .inv) (rules-grow _ _) (turn .loop-test .taken) (start .pre .3) (rules-turn _ _ p _ (same-as (c .before .before .byte .ensures .0) (c .before .if2 .left)) (behind (turn .before .loop .inv .done))), omega (arith, turn .before .loop .inv .done .starts, start .pre .4), linked-at p)
+    (p .upto, omega (arith, p .inside, start .pre .1), omega (arith, p .inside, start .pre .2), go-room (rulesTo _ _) (turn .before .loop .inv) (rules-grow _ _) (turn .loop-test .taken) (start .pre .3) (λ q k. rules-turn _ _ q _ (same-as (c .before .before .byte .ensures .0) (c .before .if2 .left)) k), omega (arith, turn .before .loop .inv .done .starts, start .pre .4), linked-at p)
 
 elder-requires-3 : tie.Need-elder-requires-3 Inv-loop μ-loop
 elder-requires-3 c κs =
     let turn = c .before .before .before .before .before .before in
     let start = turn .before .before .before .before .before .before in
-    let p = piece-of (turn .before .loop .inv .row) (turn .loop-test .taken) in
-    omega (arith, p .upto, p .inside, start .pre .1)
+    go-below (turn .before .loop .inv) (turn .loop-test .taken) (start .pre .1)
 
 loop-less-2 : tie.Need-loop-less-2 Inv-loop μ-loop
 loop-less-2 c =
     let turn = c .before .before .before .before .before .before .before in
-    (piece-of (turn .before .loop .inv .row) (turn .loop-test .taken)) .upto
+    go-less (turn .before .loop .inv) (turn .loop-test .taken)
 
 loop-again-2 : tie.Need-loop-again-2 Inv-loop μ-loop
 loop-again-2 c =
     let at-rule = c .before .before .before in
     let at-byte = at-rule .before .before .before in
     let turn = at-byte .before in
-    go-again (rulesTo _ _) (turn .before .loop .inv) _ _ (turn .loop-test .taken) (rules-turn _ _ (piece-of (turn .before .loop .inv .row) (turn .loop-test .taken)) _ (same-as (at-byte .byte .ensures .0) (at-rule .before .before .if2 .left)) (behind (turn .before .loop .inv .done))) (at-rule .rule .ensures) (c .elder3 .ensures)
+    go-again (rulesTo _ _) (turn .before .loop .inv) _ _ (turn .loop-test .taken) (λ p k. rules-turn _ _ p _ (same-as (at-byte .byte .ensures .0) (at-rule .before .before .if2 .left)) k) (at-rule .rule .ensures) (c .elder3 .ensures)
 
 same-length : tie.Need-same-length Inv-loop μ-loop
 same-length c = c .before .loop .inv .long

@@ -33,7 +33,7 @@ target-returns t c = nothing (target-none _ _ _ _ (omega (arith, c .if1 .taken))
 target-returns-2 : (t : ℕ) → target-lts.Need-returns-2 (target-calls t) (target-at t) target.Post
 target-returns-2 t c =
     let start = c .before .before .before .before .before in
-    nothing (target-other _ _ _ _ (λ z. c .before .before .if1 .left (omega (arith, z, start .pre .1 .0))) (differs 4 (c .before .byte .ensures .0) (c .if2 .taken)))
+    nothing (target-other _ _ _ _ (omega (arith, c .before .before .if1 .left, start .pre .1 .0)) (differs 4 (c .before .byte .ensures .0) (c .if2 .taken)))
 
 target-target-requires : (t : ℕ) → target-lts.Need-target-requires (target-calls t) (target-at t) target.Post
 target-target-requires t c κs =

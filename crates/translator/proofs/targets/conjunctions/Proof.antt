@@ -2,8 +2,7 @@ use mathlib.Core.Path.{refl}
 use native.Mathlib.Omega.{arith}
 use borrow.Author.Needs.{needs}
 use Rattle.translator.proofs.Links.{piece-of, linked-at}
-use Rattle.translator.proofs.Turns.{Going, go-begin, go-room, go-again, go-end, conjunctionsTo, conjunctions-stop, conjunctions-turn, conjunctions-grow}
-use Rattle.translator.proofs.Emit.{behind}
+use Rattle.translator.proofs.Turns.{Going, go-begin, go-less, go-below, go-room, go-again, go-end, conjunctionsTo, conjunctions-stop, conjunctions-turn, conjunctions-grow}
 use Rattle.translator.proofs.targets.conjunctions.Statement.{statement}
 use Rattle.translator.proofs.targets.conjunctions.Tie as tie
 
@@ -22,25 +21,24 @@ conjunction-requires : tie.Need-conjunction-requires Inv-loop μ-loop
 conjunction-requires c κs =
     let start = c .before .before .before .before .before .before in
     let p = piece-of (c .before .before .loop .inv .row) (c .before .loop-test .taken) in
-    (p .upto, omega (arith, p .inside, start .pre .1), omega (arith, p .inside, start .pre .2), go-room (conjunctionsTo _ _ _ _) (c .before .before .loop .inv) (conjunctions-grow _ _ _ _) (c .before .loop-test .taken) (start .pre .3) (conjunctions-turn _ _ _ _ p _ _ (behind (c .before .before .loop .inv .done)) refl), omega (arith, c .before .before .loop .inv .done .starts, start .pre .4), omega (arith, c .before .before .loop .inv .done .starts, start .pre .4), linked-at p)
+    (p .upto, omega (arith, p .inside, start .pre .1), omega (arith, p .inside, start .pre .2), go-room (conjunctionsTo _ _ _ _) (c .before .before .loop .inv) (conjunctions-grow _ _ _ _) (c .before .loop-test .taken) (start .pre .3) (λ q k. conjunctions-turn _ _ _ _ q _ _ k refl), omega (arith, c .before .before .loop .inv .done .starts, start .pre .4), omega (arith, c .before .before .loop .inv .done .starts, start .pre .4), linked-at p)
 
 elder-requires-2 : tie.Need-elder-requires-2 Inv-loop μ-loop
 elder-requires-2 c κs =
     let turn = c .before .before .before .before in
     let start = turn .before .before .before .before .before in
-    let p = piece-of (turn .before .loop .inv .row) (turn .loop-test .taken) in
-    omega (arith, p .upto, p .inside, start .pre .1)
+    go-below (turn .before .loop .inv) (turn .loop-test .taken) (start .pre .1)
 
 loop-less : tie.Need-loop-less Inv-loop μ-loop
 loop-less c =
     let turn = c .before .before .before .before .before in
-    (piece-of (turn .before .loop .inv .row) (turn .loop-test .taken)) .upto
+    go-less (turn .before .loop .inv) (turn .loop-test .taken)
 
 loop-again : tie.Need-loop-again Inv-loop μ-loop
 loop-again c =
     let at-conjunction = c .before .before .before in
     let turn = at-conjunction .before .before in
-    go-again (conjunctionsTo _ _ _ _) (turn .before .loop .inv) _ _ (turn .loop-test .taken) (conjunctions-turn _ _ _ _ (piece-of (turn .before .loop .inv .row) (turn .loop-test .taken)) _ _ (behind (turn .before .loop .inv .done)) refl) (at-conjunction .conjunction .ensures) (c .elder2 .ensures)
+    go-again (conjunctionsTo _ _ _ _) (turn .before .loop .inv) _ _ (turn .loop-test .taken) (λ p k. conjunctions-turn _ _ _ _ p _ _ k refl) (at-conjunction .conjunction .ensures) (c .elder2 .ensures)
 
 same-length : tie.Need-same-length Inv-loop μ-loop
 same-length c = c .before .loop .inv .long

@@ -1,9 +1,6 @@
 use mathlib.Core.Path.{refl}
-use native.Mathlib.Omega.{arith}
 use borrow.Author.Needs.{needs}
-use Rattle.translator.proofs.Links.{piece-of}
-use Rattle.translator.proofs.Turns.{Going, go-begin, go-room, go-again, go-end, matchesTo, matches-stop, matches-turn, matches-grow}
-use Rattle.translator.proofs.Emit.{behind}
+use Rattle.translator.proofs.Turns.{Going, go-begin, go-less, go-below, go-bytes, go-room, go-again, go-end, matchesTo, matches-stop, matches-turn, matches-grow}
 use Rattle.translator.proofs.targets.matches.Statement.{statement}
 use Rattle.translator.proofs.targets.matches.Tie as tie
 
@@ -21,26 +18,24 @@ loop-holds c =
 match-entry-requires : tie.Need-match-entry-requires Inv-loop μ-loop
 match-entry-requires c κs =
     let start = c .before .before .before .before .before .before in
-    let p = piece-of (c .before .before .loop .inv .row) (c .before .loop-test .taken) in
-    (omega (arith, p .upto, p .inside, start .pre .2), go-room (matchesTo _ _ _ _ _ _) (c .before .before .loop .inv) (matches-grow _ _ _ _ _ _) (c .before .loop-test .taken) (start .pre .3) (matches-turn _ _ _ _ _ _ p _ _ refl refl), search needs, search needs, search needs)
+    (go-bytes (c .before .before .loop .inv) (c .before .loop-test .taken) (start .pre .2), go-room (matchesTo _ _ _ _ _ _) (c .before .before .loop .inv) (matches-grow _ _ _ _ _ _) (c .before .loop-test .taken) (start .pre .3) (λ p k. matches-turn _ _ _ _ _ _ p _ _ k refl), search needs, search needs, search needs)
 
 elder-requires-2 : tie.Need-elder-requires-2 Inv-loop μ-loop
 elder-requires-2 c κs =
     let turn = c .before .before .before .before in
     let start = turn .before .before .before .before .before in
-    let p = piece-of (turn .before .loop .inv .row) (turn .loop-test .taken) in
-    omega (arith, p .upto, p .inside, start .pre .1)
+    go-below (turn .before .loop .inv) (turn .loop-test .taken) (start .pre .1)
 
 loop-less : tie.Need-loop-less Inv-loop μ-loop
 loop-less c =
     let turn = c .before .before .before .before .before in
-    (piece-of (turn .before .loop .inv .row) (turn .loop-test .taken)) .upto
+    go-less (turn .before .loop .inv) (turn .loop-test .taken)
 
 loop-again : tie.Need-loop-again Inv-loop μ-loop
 loop-again c =
     let at-match-entry = c .before .before .before in
     let turn = at-match-entry .before .before in
-    go-again (matchesTo _ _ _ _ _ _) (turn .before .loop .inv) _ _ (turn .loop-test .taken) (matches-turn _ _ _ _ _ _ (piece-of (turn .before .loop .inv .row) (turn .loop-test .taken)) _ _ (behind (turn .before .loop .inv .done)) refl) (at-match-entry .match-entry .ensures) (c .elder2 .ensures)
+    go-again (matchesTo _ _ _ _ _ _) (turn .before .loop .inv) _ _ (turn .loop-test .taken) (λ p k. matches-turn _ _ _ _ _ _ p _ _ k refl) (at-match-entry .match-entry .ensures) (c .elder2 .ensures)
 
 same-length : tie.Need-same-length Inv-loop μ-loop
 same-length c = c .before .loop .inv .long
