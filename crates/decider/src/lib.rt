@@ -337,7 +337,7 @@ fn answer(book: &[u8], request: &[u8], records: usize, out: &mut [u16]) -> Rulin
 {
     let r = child(book, request, 0, records, MOST_BELOW, out, 0);
     let n = r.count;
-    record::lent::clear(out, n);
+    lent::clear(out, n);
     r
 }
 

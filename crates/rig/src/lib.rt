@@ -54,7 +54,7 @@ fn state_in(numbers: &[u64], places: &[u16]) -> State
     let mut held: [u16; 1000] = [0; 1000];
     copy_numbers(&numbers[1..18], &mut frames);
     copy_numbers(&numbers[18..33], &mut levels);
-    record::lent::copy(places, PLACES, &mut held);
+    lent::copy(places, PLACES, &mut held);
     State {
         head: numbers[0],
         frames,
@@ -78,7 +78,7 @@ fn put_places(held: &[u16; 1000], places: &mut [u16])
     requires { ⌜ 1000 ≤ length (now places) ⌝ }
     ensures { λ _. ⌜ now (places .exit) ≡ over (now (held .entry)) (now (places .entry)) ⌝ }
 {
-    record::lent::copy(held, PLACES, places);
+    lent::copy(held, PLACES, places);
 }
 
 // Puts a state into the first of lent numbers and places.

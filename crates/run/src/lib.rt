@@ -214,8 +214,8 @@ fn fill(places: &[u16; 1000], count: u64, out: &mut [u16])
     ensures { λ r. ⌜ now (out .exit) ≡ take count (now (places .entry)) ++ replicate (length (now (out .entry)) - count) 0 ⌝ }
 {
     let n = count as usize;
-    record::lent::copy(places, n, out);
-    record::lent::clear(out, n);
+    lent::copy(places, n, out);
+    lent::clear(out, n);
 }
 
 // A refused tick returns the state that it was given, and 0 steps.

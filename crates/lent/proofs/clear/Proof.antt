@@ -2,9 +2,9 @@ use Prim.Native.Nat.{_≤_, _-_}
 use lib.ListN.{length}
 use native.Mathlib.Omega.{arith}
 use borrow.Author.Needs.{needs}
 use Rattle.record.proofs.Filling.{Cleared, fill-none, clear-more, clear-done}
-use Rattle.record.proofs.lent.clear.Statement.{statement}
-use Rattle.record.proofs.lent.clear.Tie as tie
+use Rattle.lent.proofs.clear.Statement.{statement}
+use Rattle.lent.proofs.clear.Tie as tie
 
 abbrev Inv-loop : tie.InvT-loop
 Inv-loop out₀ n i₀ out i = (n ≤ i) × (i ≤ length out₀) × Cleared out₀ n i out

@@ -1,5 +1,4 @@
-// Places that a caller lends for obligations, copied and cleared. Deciding, ticks and the calls from C do this, and share no crate that is about
-// obligations: so it stands at the bottom.
+// Places that a caller lends for obligations, copied and cleared: deciding, ticks and the calls from C do this.
 ghost use mathlib.Core.Path.{_≡_};
 ghost use mathlib.Core.List.{_++_};
 ghost use Prim.Native.Nat.{_-_, _≤_};

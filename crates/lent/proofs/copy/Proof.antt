@@ -2,9 +2,9 @@ use Prim.Native.Nat.{_≤_, _-_}
 use mathlib.Core.Path.{refl}
 use native.Mathlib.Omega.{arith}
 use borrow.Author.Needs.{needs}
 use Rattle.record.proofs.Filling.{Filled, fill-none, fill-more, copy-done}
-use Rattle.record.proofs.lent.copy.Statement.{statement}
-use Rattle.record.proofs.lent.copy.Tie as tie
+use Rattle.lent.proofs.copy.Statement.{statement}
+use Rattle.lent.proofs.copy.Tie as tie
 
 abbrev Inv-loop : tie.InvT-loop
 Inv-loop from n to₀ i₀ to i = (i ≤ n) × Filled to₀ 0 from i to
