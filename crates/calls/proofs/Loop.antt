@@ -12,7 +12,7 @@ use Rattle.record.specs.Choose.{if}
 use Rattle.meaning.specs.Meaning.{decides, obliges}
 use Rattle.meaning.specs.Reading.{bookOf, bagsOf}
 use Rattle.meaning.specs.declared.Decision.{Decision}
-use Rattle.programme.specs.declared.State.{State}
+use Rattle.layout.specs.declared.State.{State}
 use Rattle.programme.specs.Step.{freshOf}
 use Rattle.run.specs.Tick.{Ticked}
 use Rattle.run.specs.declared.kinds.Answer.{Answer}

@@ -14,9 +14,9 @@ use Rattle.record.specs.Choose.{if}
 use Rattle.meaning.specs.Meaning.{Bags}
 use Rattle.meaning.specs.declared.Decision.{Decision}
 use Rattle.meaning.specs.declared.Decision.the-variants.{Permit, Deny, NotApplicable, Indeterminate}
-use Rattle.programme.specs.declared.State.{State}
-use Rattle.programme.specs.Entry.{Entry, further, isFurther, lawful}
-use Rattle.programme.specs.Layout.{unpackOf, packOf, allowed, fetch}
+use Rattle.layout.specs.declared.State.{State}
+use Rattle.layout.specs.Entry.{Entry, further, isFurther, lawful}
+use Rattle.layout.specs.Layout.{unpackOf, packOf, allowed, fetch}
 use Rattle.programme.specs.Step.{mayStep, stepOf, isOver, countBy, freshOf}
 use Rattle.programme.proofs.Forward.{still-allowed}
 use Rattle.run.specs.Tick.{countOf, firstPlaces}

@@ -25,12 +25,12 @@ use Rattle.judge.specs.declared.JudgedRequest.the-variants as request
 use Rattle.judge.proofs.Exactly.{accepted-keeps}
 use Rattle.judge.proofs.Sound.{kept-nests}
 use Rattle.judge.proofs.Depth.{book-deep}
-use Rattle.programme.specs.declared.State.{State}
-use Rattle.programme.specs.Entry.{Entry, further, isFurther, lawful}
-use Rattle.programme.specs.Core.{atOnce}
-use Rattle.programme.specs.Layout.{fetch}
+use Rattle.layout.specs.declared.State.{State}
+use Rattle.layout.specs.Entry.{Entry, further, isFurther, lawful}
+use Rattle.moves.specs.Core.{atOnce}
+use Rattle.layout.specs.Layout.{fetch}
 use Rattle.programme.specs.Step.{isOver, freshOf}
-use Rattle.programme.proofs.Spelling.{Key, Short}
+use Rattle.layout.proofs.Spelling.{Key, Short}
 use Rattle.run.specs.Run.{runOf}
 use Rattle.run.specs.Tick.{admitted, Ticked, answered, tickOf}
 use Rattle.run.specs.declared.kinds.Ran.{Ran}

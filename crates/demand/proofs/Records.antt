@@ -11,10 +11,10 @@ use Rattle.meaning.specs.Reading.{bookOf}
 use Rattle.meaning.specs.declared.Test.{Test}
 use Rattle.meaning.specs.declared.Decision.{Decision}
 use Rattle.meaning.specs.declared.Effect.the-variants.{Permits, Denies}
-use Rattle.programme.specs.Entry.{Entry, begin, match, further, opens, compare, close, rule, enter, applies, conclude, oblige, leave, finish}
-use Rattle.programme.specs.Core.{atOnce}
+use Rattle.layout.specs.Entry.{Entry, begin, match, further, opens, compare, close, rule, enter, applies, conclude, oblige, leave, finish}
+use Rattle.moves.specs.Core.{atOnce}
 use Rattle.programme.specs.Step.{freshOf}
-use Rattle.programme.proofs.Spelling.{Holds}
+use Rattle.layout.proofs.Spelling.{Holds}
 use Rattle.run.specs.Run.{runOf}
 use Rattle.promises.specs.Place.{headOf}
 use Rattle.promises.specs.Sight.{Obliges}

@@ -12,10 +12,10 @@ use Rattle.meaning.specs.Numbers.{keyBy}
 use Rattle.meaning.specs.Meaning.{comparisonOf, gives}
 use Rattle.meaning.specs.Reading.{keyAt, testAt, matchAt, comparisonAt, rowOf, childrenAt, conjunctionAt, sectionAt, targetIn, conditionAt, conditionsIn, whenIn, ruleAt, rulesIn, obligationsIn, treeAt, treesIn, bookOf, bagFrom, bagsOf}
 use Rattle.meaning.specs.declared.Decision.the-variants.{Deny}
-use Rattle.programme.specs.Entry.{lawful}
-use Rattle.programme.specs.Core.{core}
-use Rattle.programme.specs.Machine.{copies}
-use Rattle.programme.specs.Layout.{wordsOf, testWord, fetch, entryOf, entryBy, compareBy, testOf, unpackOf, packOf, truthBy, decisionBy, effectBy, algorithmBy, accBy, rankBy, frameOf, frameWord, levelOf, levelWord}
+use Rattle.layout.specs.Entry.{lawful}
+use Rattle.moves.specs.Core.{core}
+use Rattle.stacks.specs.Machine.{copies}
+use Rattle.layout.specs.Layout.{wordsOf, testWord, fetch, entryOf, entryBy, compareBy, testOf, unpackOf, packOf, truthBy, decisionBy, effectBy, algorithmBy, accBy, rankBy, frameOf, frameWord, levelOf, levelWord}
 use Rattle.programme.specs.Step.{mayStep, stepOf, isOver, after, headAfter, seen, freshOf}
 use Rattle.run.specs.Run.{runOf}
 use Rattle.translator.specs.Code.{codeConjunction, codeSection, codeTarget, codeCondition, codeConditions, codeWhen, codeRule, codeRules, codeObligations, codeBody, codeWithin, codeShell, codeTree, codeTrees, owns, obligations, obligationsAll, codeTop, programme, translated, inNumbers}

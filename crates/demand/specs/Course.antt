@@ -6,8 +6,8 @@ use mathlib.Core.List.{List}
 use lib.ListN.{length}
 use Rattle.meaning.specs.Meaning.{Bags}
 use Rattle.meaning.specs.declared.Decision.{Decision}
-use Rattle.programme.specs.declared.State.{State}
-use Rattle.programme.specs.Layout.{unpackOf}
+use Rattle.layout.specs.declared.State.{State}
+use Rattle.layout.specs.Layout.{unpackOf}
 use Rattle.programme.specs.Step.{isOver, freshOf}
 use Rattle.run.specs.Tick.{countOf, firstPlaces}
 use Rattle.promises.specs.Steps.{afterSteps, Left}

@@ -20,20 +20,21 @@ use Rattle.meaning.specs.declared.Effect.the-variants.{Permits, Denies}
 use Rattle.algorithm.specs.Fold.{result, settled, absorb}
 use Rattle.algorithm.specs.declared.Acc.{Acc}
 use Rattle.algorithm.specs.declared.Acc.the-variants.{Ranked, Nobody, Pending, Two, One}
-use Rattle.programme.specs.declared.Head.{Head}
-use Rattle.programme.specs.declared.Frame.{Frame}
-use Rattle.programme.specs.declared.Level.{Level}
-use Rattle.programme.specs.declared.Placing.{Placing}
-use Rattle.programme.specs.declared.Placing.the-variants.{Rest, AddPermit, AddDeny, FallPermit, FallDeny, FallBoth, Cut, Down}
-use Rattle.programme.specs.Entry.{Entry, begin, match, further, opens, compare, close, rule, enter, applies, conclude, oblige, leave, finish, extra, reach, fits, lawful}
-use Rattle.programme.specs.Core.{past, told, settledBy, targetDone, sectionDone, conjunctionDone, matchDone, tell, closed, concluded, noted, pushed, finished, core}
-use Rattle.programme.specs.Machine.{roomF, roomL, permitsAfter, deniesAfter, cutAfter}
-use Rattle.programme.specs.Layout.{unpackOf, allowed, fetch}
+use Rattle.layout.specs.declared.Head.{Head}
+use Rattle.layout.specs.declared.Frame.{Frame}
+use Rattle.layout.specs.declared.Level.{Level}
+use Rattle.moves.specs.declared.Placing.{Placing}
+use Rattle.moves.specs.declared.Placing.the-variants.{Rest, AddPermit, AddDeny, FallPermit, FallDeny, FallBoth, Cut, Down}
+use Rattle.layout.specs.Entry.{Entry, begin, match, further, opens, compare, close, rule, enter, applies, conclude, oblige, leave, finish, extra, reach, fits, lawful}
+use Rattle.moves.specs.Core.{past, told, settledBy, targetDone, sectionDone, conjunctionDone, matchDone, tell, closed, concluded, noted, pushed, finished, core}
+use Rattle.stacks.specs.Machine.{roomF, roomL, permitsAfter, deniesAfter, cutAfter}
+use Rattle.layout.specs.Layout.{unpackOf, allowed, fetch}
 use Rattle.programme.specs.Step.{headAfter, after, seen, mayStep, stepOf}
-use Rattle.programme.specs.declared.State.{State}
-use Rattle.programme.proofs.Coding.{ranged, ranged-back, allowed-pack}
-use Rattle.programme.proofs.Stacks.{height-fits}
-use Rattle.programme.specs.Moves.{Ranged, Placed}
+use Rattle.layout.specs.declared.State.{State}
+use Rattle.layout.proofs.Coding.{ranged, ranged-back, allowed-pack}
+use Rattle.stacks.proofs.Bounds.{height-fits}
+use Rattle.layout.specs.Ranges.{Ranged}
+use Rattle.stacks.specs.Carry.{Placed}
 
 -- how far a match leads
 target-far : (v : Truth) (j x : ℕ) (r : Decision) → targetDone v j x r .jump ≤ max j x
@@ -85,7 +86,7 @@ inside (close n) g long h l m f b w = let z = go (h .nest) in omega (arith, w, z
     go zero = omega arith
     go (suc zero) = omega arith
     go (suc (suc k)) = past-far (settledBy (m .op) (told m (l .val) .val)) n (h .reg)
-inside (rule e n) g long h l m f b w = let z = past-far (settled (f .alg) (absorb (f .alg) (f .acc) e (Rattle.programme.specs.Core.ruled e (h .reg)))) n Permit in omega (arith, w, z)
+inside (rule e n) g long h l m f b w = let z = past-far (settled (f .alg) (absorb (f .alg) (f .acc) e (Rattle.moves.specs.Core.ruled e (h .reg)))) n Permit in omega (arith, w, z)
 inside (enter al) g long h l m f b w = w
 inside (applies n) g long h l m f b w = let z = go (b .acc) in omega (arith, w, z)
   where

@@ -10,16 +10,17 @@ use borrow.Author.Tests.{le-leb, lt-leb, ne-eqb}
 use Rattle.record.specs.Choose.{both}
 use Rattle.record.proofs.Choose.{both-true, both-false}
 use Rattle.meaning.specs.Meaning.{Bags}
-use Rattle.programme.specs.declared.Level.{Level}
-use Rattle.programme.specs.declared.Frame.{Frame}
-use Rattle.programme.specs.declared.Head.{Head}
-use Rattle.programme.specs.declared.Move.{Move}
+use Rattle.layout.specs.declared.Level.{Level}
+use Rattle.layout.specs.declared.Frame.{Frame}
+use Rattle.layout.specs.declared.Head.{Head}
+use Rattle.moves.specs.declared.Move.{Move}
 use Rattle.programme.specs.declared.Met.{Met}
 use Rattle.programme.specs.declared.Met.the-variants.{Outside, Does}
-use Rattle.programme.specs.Entry.{Entry, further, extra, reach, fits, lawful}
-use Rattle.programme.specs.Core.{core, finished}
-use Rattle.programme.specs.Layout.{matchBy, compareBy, entryBy, entryOf, fetch}
-use Rattle.programme.specs.Moves.{moveOf, metIf, meets}
+use Rattle.layout.specs.Entry.{Entry, further, extra, reach, fits, lawful}
+use Rattle.moves.specs.Core.{core, finished}
+use Rattle.layout.specs.Layout.{matchBy, compareBy, entryBy, entryOf, fetch}
+use Rattle.moves.specs.Moves.{moveOf}
+use Rattle.programme.specs.Meets.{metIf, meets}
 
 same-if : (ok : Bool) (v w : Move) (k n : ℕ) → v ≡ w → k ≡ n → metIf ok v k ≡ metIf ok w n
 same-if true v w k n e f = rw (e, f)

@@ -1,9 +1,4 @@
-pub mod Coding
-pub mod Spelling
-pub mod Stacks
 pub mod Forward
-pub mod Outcome
 pub mod Found
-pub mod Carried
 pub mod Stepping
 pub mod Unique

@@ -6,18 +6,21 @@ use mathlib.Core.List.{List}
 use native.Mathlib.Omega.{arith}
 use lib.ListN.{length, getD}
 use Rattle.meaning.specs.Meaning.{Bags}
-use Rattle.programme.specs.declared.Head.{Head}
-use Rattle.programme.specs.declared.State.{State}
-use Rattle.programme.specs.declared.Move.{Move}
+use Rattle.layout.specs.declared.Head.{Head}
+use Rattle.layout.specs.declared.State.{State}
+use Rattle.moves.specs.declared.Move.{Move}
 use Rattle.programme.specs.declared.Met.{Met}
 use Rattle.programme.specs.declared.Met.the-variants.{Outside, Does}
-use Rattle.programme.specs.Entry.{Entry, extra}
-use Rattle.programme.specs.Core.{Changing, keep, push, swap, below, back, Out}
-use Rattle.programme.specs.Machine.{heightAfter, stackAfter, placesAfter}
-use Rattle.programme.specs.Layout.{levelOf, levelWord, frameOf, frameWord, unpackOf, packOf, allowed, fetch}
-use Rattle.programme.specs.Step.{changingOf, inWords, headAfter, after, seen, mayStep, stepOf, steppedOf, stateOf}
-use Rattle.programme.specs.Moves.{Ranged, moveOf, metIf, meets, Placed, headWith}
-use Rattle.programme.proofs.Coding.{ranged}
+use Rattle.layout.specs.Entry.{Entry, extra}
+use Rattle.moves.specs.Core.{Changing, keep, push, swap, below, back, Out}
+use Rattle.stacks.specs.Machine.{heightAfter, stackAfter, placesAfter}
+use Rattle.layout.specs.Layout.{levelOf, levelWord, frameOf, frameWord, unpackOf, packOf, allowed, fetch}
+use Rattle.stacks.specs.Carry.{changingOf, inWords, Placed, headWith}
+use Rattle.programme.specs.Step.{headAfter, after, seen, mayStep, stepOf, steppedOf, stateOf}
+use Rattle.layout.specs.Ranges.{Ranged}
+use Rattle.moves.specs.Moves.{moveOf}
+use Rattle.programme.specs.Meets.{metIf, meets}
+use Rattle.layout.proofs.Coding.{ranged}
 use Rattle.programme.proofs.Forward.{placed-core, lawful-parts, step-forward}
 
 -- a change in numbers leads as high

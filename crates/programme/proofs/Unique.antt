@@ -7,11 +7,11 @@ use contract.Lifetimes.{Lfts}
 use borrow.Fn.Kinds.{Dens, resT, endedOf}
 use denote.Triple.Clauses.{AtExit}
 use denote.Ref.{now}
-use Rattle.programme.specs.declared.Head.{Head}
-use Rattle.programme.specs.declared.State.{State}
+use Rattle.layout.specs.declared.Head.{Head}
+use Rattle.layout.specs.declared.State.{State}
 use Rattle.programme.specs.declared.Went.{Went}
-use Rattle.programme.specs.Layout.{unpackOf}
-use Rattle.programme.proofs.Coding.{ranged-back}
+use Rattle.layout.specs.Layout.{unpackOf}
+use Rattle.layout.proofs.Coding.{ranged-back}
 use Rattle.programme.proofs.step_in.Kinds as kinds
 use Rattle.programme.proofs.step_in.Reads as reads
 

@@ -1,6 +1,2 @@
-pub mod Entry
-pub mod Core
-pub mod Machine
-pub mod Layout
 pub mod Step
-pub mod Moves
+pub mod Meets

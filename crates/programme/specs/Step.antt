@@ -1,58 +1,22 @@
 -- A step: what document 01 says of one in "The programme and its ticks". Assumes nothing.
-use Prim.Native.Nat.{ℕ, suc, _+_, _-_}
+use Prim.Native.Nat.{ℕ, _-_}
 use mathlib.Core.Bool.{Bool, false}
-use mathlib.Core.List.{List}
-use lib.ListN.{length, getD, replicate}
 use Rattle.record.specs.Choose.{if}
 use Rattle.meaning.specs.Meaning.{Bags}
+use Rattle.layout.specs.declared.Head.{Head}
+use Rattle.layout.specs.Entry.{Entry, extra, lawful}
+use Rattle.moves.specs.Core.{Out, core}
+use Rattle.stacks.specs.Machine.{roomF, roomL, heightAfter, stackAfter, placesAfter}
+use Rattle.layout.specs.Layout.{levelWord, frameWord, levelOf, frameOf, unpackOf, packOf, fetch}
+use mathlib.Core.List.{List}
+use lib.ListN.{length, getD, replicate}
 use Rattle.meaning.specs.declared.Decision.{Decision}
 use Rattle.meaning.specs.declared.Decision.the-variants.{Permit, Deny, NotApplicable, Indeterminate}
 use Rattle.meaning.specs.declared.Truth.the-variants.{True, False}
-use Rattle.programme.specs.declared.Change.{Change}
-use Rattle.programme.specs.declared.Change.the-variants.{Keep, Push, Swap, Under, Back}
-use Rattle.programme.specs.declared.Head.{Head}
-use Rattle.programme.specs.declared.Next.{Next}
-use Rattle.programme.specs.declared.Placing.{Placing}
-use Rattle.programme.specs.declared.State.{State}
-use Rattle.programme.specs.Entry.{Entry, extra, lawful}
-use Rattle.programme.specs.Core.{Changing, keep, push, swap, below, back, Out, core}
-use Rattle.programme.specs.Machine.{roomF, roomL, heightAfter, stackAfter, cutAfter, permitsAfter, deniesAfter, placesAfter}
-use Rattle.programme.specs.Layout.{levelOf, levelWord, frameOf, frameWord, unpackOf, packOf, fetch}
+use Rattle.layout.specs.declared.State.{State}
+use Rattle.stacks.specs.Carry.{inWords, headTo}
 
--- a change of a stack in numbers: as the code passes it on, and as it is carried out
-abbrev pub changeOf : {A : Type 0} → (A → ℕ) → Changing A → Change
-changeOf f keep = Keep
-changeOf f (push x) = Push (f x)
-changeOf f (swap x) = Swap (f x)
-changeOf f (below x) = Under (f x)
-changeOf f (back x) = Back (f x)
-
-abbrev pub changingOf : Change → Changing ℕ
-changingOf Keep = keep
-changingOf (Push n) = push n
-changingOf (Swap n) = swap n
-changingOf (Under n) = below n
-changingOf (Back n) = back n
-
-abbrev pub inWords : {A : Type 0} → (A → ℕ) → Changing A → Changing ℕ
-inWords f z = changingOf (changeOf f z)
-
--- the first number after a step past so many further entries, with so many policies and sets and so many conditions open
-abbrev pub headTo : Head → ℕ → ℕ → ℕ → Next → Bool → Placing → Head
-headTo h further depth nest n over z = record {
-  at = h .at + suc (further + n .jump);
-  depth = depth;
-  nest = nest;
-  permits = permitsAfter z (h .cut) (h .permits);
-  denies = deniesAfter z (h .cut) 1000 (h .denies);
-  cut = cutAfter z (h .cut);
-  reg = n .reg;
-  ands = n .ands;
-  ors = n .ors;
-  sections = n .sections;
-  over = over;
-}
-
+-- the first number after a step
 unfoldable pub headAfter : Head → Entry → Out → Head
 headAfter h e x =
     headTo h (extra e) (heightAfter roomF (x .frames) (h .depth)) (heightAfter roomL (x .levels) (h .nest)) (x .next) (x .over) (x .placing)

@@ -19,18 +19,19 @@ use Rattle.meaning.specs.declared.Effect.the-variants.{Permits, Denies}
 use Rattle.algorithm.specs.Fold.{result}
 use Rattle.algorithm.specs.declared.Acc.{Acc}
 use Rattle.algorithm.specs.declared.Acc.the-variants.{Ranked, Nobody, Pending, Two, One}
-use Rattle.programme.specs.declared.Head.{Head}
-use Rattle.programme.specs.declared.State.{State}
-use Rattle.programme.specs.declared.Frame.{Frame}
-use Rattle.programme.specs.declared.Level.{Level}
-use Rattle.programme.specs.declared.Placing.{Placing}
-use Rattle.programme.specs.declared.Placing.the-variants.{Rest, AddPermit, AddDeny, FallPermit, FallDeny, FallBoth, Cut, Down}
-use Rattle.programme.specs.Entry.{Entry, begin, match, further, opens, compare, close, rule, enter, applies, conclude, oblige, leave, finish}
-use Rattle.programme.specs.Core.{Changing, keep, push, swap, below, back, Out, tell, closed, concluded, noted, pushed, finished, core}
-use Rattle.programme.specs.Machine.{roomF, roomL, stackAfter, copies, placesAfter}
-use Rattle.programme.specs.Layout.{frameWord, levelWord, fetch}
-use Rattle.programme.specs.Step.{inWords, after, seen, mayStep, stepOf, isOver, freshOf}
-use Rattle.programme.proofs.Stacks.{stack-length, places-length}
+use Rattle.layout.specs.declared.Head.{Head}
+use Rattle.layout.specs.declared.State.{State}
+use Rattle.layout.specs.declared.Frame.{Frame}
+use Rattle.layout.specs.declared.Level.{Level}
+use Rattle.moves.specs.declared.Placing.{Placing}
+use Rattle.moves.specs.declared.Placing.the-variants.{Rest, AddPermit, AddDeny, FallPermit, FallDeny, FallBoth, Cut, Down}
+use Rattle.layout.specs.Entry.{Entry, begin, match, further, opens, compare, close, rule, enter, applies, conclude, oblige, leave, finish}
+use Rattle.moves.specs.Core.{Changing, keep, push, swap, below, back, Out, tell, closed, concluded, noted, pushed, finished, core}
+use Rattle.stacks.specs.Machine.{roomF, roomL, stackAfter, copies, placesAfter}
+use Rattle.layout.specs.Layout.{frameWord, levelWord, fetch}
+use Rattle.stacks.specs.Carry.{inWords}
+use Rattle.programme.specs.Step.{after, seen, mayStep, stepOf, isOver, freshOf}
+use Rattle.stacks.proofs.Bounds.{stack-length, places-length}
 use Rattle.run.specs.Run.{goOn, runOf}
 use Rattle.promises.specs.Place.{headOf, Place, frame, level, place, Sized, There, held, touched, In}
 use Rattle.promises.specs.Sight.{asked, Sight, sightOf, headIn, entryIn, outIn, mayIn, firstAfter, Source, stays, number, from, given, inStack, inPlaces, sourceOf, BySight, AtMostEleven, Obliges, Plain, Puts, Within, TouchesNoMore, ElseStays, Alike, Local, StaysSized, RunsStaySized, FreshSized}

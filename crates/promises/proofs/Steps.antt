@@ -12,7 +12,7 @@ use native.Mathlib.Omega.{arith}
 use borrow.Author.Tests.{ltb-true, ltb-false}
 use Rattle.record.proofs.Choose.{no-false}
 use Rattle.meaning.specs.Meaning.{Bags}
-use Rattle.programme.specs.declared.State.{State}
+use Rattle.layout.specs.declared.State.{State}
 use Rattle.programme.specs.Step.{mayStep, stepOf, isOver, freshOf}
 use Rattle.run.specs.Run.{goOn, runOf}
 use Rattle.run.specs.Runs.{stepsLeft}

@@ -15,8 +15,8 @@ use Rattle.meaning.specs.declared.Decision.{Decision}
 use Rattle.judge.specs.Request.{judgeRequestOf}
 use Rattle.judge.specs.declared.JudgedRequest.{JudgedRequest}
 use Rattle.judge.specs.declared.JudgedRequest.the-variants as judged
-use Rattle.programme.specs.declared.State.{State}
-use Rattle.programme.specs.Layout.{unpackOf, allowed}
+use Rattle.layout.specs.declared.State.{State}
+use Rattle.layout.specs.Layout.{unpackOf, allowed}
 use Rattle.programme.specs.Step.{isOver}
 use Rattle.run.specs.Run.{runOf}
 use Rattle.run.specs.Runs.{stepsLeft}

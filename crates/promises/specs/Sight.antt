@@ -10,14 +10,15 @@ use Rattle.value.specs.declared.Value.{Value}
 use Rattle.meaning.specs.Policy.{Key}
 use Rattle.meaning.specs.Numbers.{keyBy, keyOf}
 use Rattle.meaning.specs.Meaning.{Bags}
-use Rattle.programme.specs.declared.Head.{Head}
-use Rattle.programme.specs.declared.State.{State}
-use Rattle.programme.specs.declared.Placing.{Placing}
-use Rattle.programme.specs.declared.Placing.the-variants.{Rest, AddPermit, AddDeny, FallPermit, FallDeny, FallBoth, Cut, Down}
-use Rattle.programme.specs.Entry.{Entry, begin, match, further, opens, compare, close, rule, enter, applies, conclude, oblige, leave, finish, lawful}
-use Rattle.programme.specs.Core.{Changing, keep, push, swap, below, back, Out, core}
-use Rattle.programme.specs.Layout.{frameOf, frameWord, levelOf, levelWord, unpackOf, packOf, entryOf}
-use Rattle.programme.specs.Step.{inWords, headAfter, mayStep, stepOf, freshOf}
+use Rattle.layout.specs.declared.Head.{Head}
+use Rattle.layout.specs.declared.State.{State}
+use Rattle.moves.specs.declared.Placing.{Placing}
+use Rattle.moves.specs.declared.Placing.the-variants.{Rest, AddPermit, AddDeny, FallPermit, FallDeny, FallBoth, Cut, Down}
+use Rattle.layout.specs.Entry.{Entry, begin, match, further, opens, compare, close, rule, enter, applies, conclude, oblige, leave, finish, lawful}
+use Rattle.moves.specs.Core.{Changing, keep, push, swap, below, back, Out, core}
+use Rattle.layout.specs.Layout.{frameOf, frameWord, levelOf, levelWord, unpackOf, packOf, entryOf}
+use Rattle.stacks.specs.Carry.{inWords}
+use Rattle.programme.specs.Step.{headAfter, mayStep, stepOf, freshOf}
 use Rattle.run.specs.Run.{runOf}
 use Rattle.promises.specs.Place.{headOf, Place, frame, level, place, Sized, There, held, touched, In}
 

@@ -11,8 +11,8 @@ use Rattle.meaning.specs.Reading.{bagsOf}
 use Rattle.meaning.specs.declared.Decision.{Decision}
 use Rattle.judge.specs.Request.{judgeRequestOf}
 use Rattle.judge.specs.declared.JudgedRequest.the-variants as judged
-use Rattle.programme.specs.declared.Head.{Head}
-use Rattle.programme.specs.declared.State.{State}
+use Rattle.layout.specs.declared.Head.{Head}
+use Rattle.layout.specs.declared.State.{State}
 use Rattle.programme.specs.Step.{isOver, countBy}
 use Rattle.run.specs.Runs.{stepsLeft}
 use Rattle.run.specs.Tick.{Ticked, admitted, refused, firstPlaces, answered, tickOf}

@@ -16,9 +16,9 @@ use Rattle.judge.specs.declared.Judged.the-variants as book
 use Rattle.judge.specs.declared.JudgedRequest.the-variants as judged
 use Rattle.judge.proofs.Bounds.{refused-small}
 use Rattle.judge.proofs.Exactly.{accepted-keeps}
-use Rattle.programme.specs.declared.State.{State}
-use Rattle.programme.specs.Entry.{Entry, begin, match, further, opens, compare, close, rule, enter, applies, conclude, oblige, leave, finish}
-use Rattle.programme.specs.Layout.{allowed, wordsOf}
+use Rattle.layout.specs.declared.State.{State}
+use Rattle.layout.specs.Entry.{Entry, begin, match, further, opens, compare, close, rule, enter, applies, conclude, oblige, leave, finish}
+use Rattle.layout.specs.Layout.{allowed, wordsOf}
 use Rattle.programme.specs.Step.{stateOf}
 use Rattle.run.specs.declared.kinds.Answer.the-variants.{Refused}
 use Rattle.translator.specs.Code.{translated as code, inNumbers}

@@ -11,7 +11,7 @@ use Rattle.record.specs.Refusals.{noRoom, refusalNumber}
 use Rattle.record.specs.declared.Refusal.{Refusal}
 use Rattle.record.proofs.Filling.{Filled, copy-done}
 use Rattle.meaning.specs.declared.Decision.{Decision}
-use Rattle.programme.specs.declared.State.{State}
+use Rattle.layout.specs.declared.State.{State}
 use Rattle.programme.specs.Step.{stateOf, freshOf}
 use Rattle.run.specs.Tick.{tickOf}
 use Rattle.run.specs.declared.kinds.Answer.the-variants.{Running, Finished, Refused}

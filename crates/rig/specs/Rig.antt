@@ -9,7 +9,7 @@ use Rattle.record.specs.Refusals.{noRoom, refusalNumber}
 use Rattle.record.specs.declared.Refusal.{Refusal}
 use Rattle.meaning.specs.Numbers.{numberOf}
 use Rattle.meaning.specs.declared.Decision.{Decision}
-use Rattle.programme.specs.declared.State.{State}
+use Rattle.layout.specs.declared.State.{State}
 use Rattle.programme.specs.Step.{stateOf, freshOf}
 use Rattle.run.specs.Tick.{Ticked, tickOf}
 use Rattle.run.specs.declared.kinds.Answer.{Answer}

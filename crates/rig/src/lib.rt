@@ -1,6 +1,6 @@
 // The calls of the rig's loop. They take apart what is lent, call the functions of other crates, and put together what those give.
+use layout::State;
 use meaning::Decision;
-use programme::State;
 use run::kinds::Answer;
 use translator::Translated;
 ghost use mathlib.Core.Path.{_≡_};

@@ -14,8 +14,8 @@ use Rattle.judge.specs.Request.{judgeRequestOf}
 use Rattle.judge.specs.declared.JudgedRequest.{JudgedRequest}
 use Rattle.judge.specs.declared.JudgedRequest.the-variants as judged
 use Rattle.judge.proofs.Bounds.{refused-request-small}
-use Rattle.programme.specs.declared.State.{State}
-use Rattle.programme.specs.Layout.{unpackOf, allowed}
+use Rattle.layout.specs.declared.State.{State}
+use Rattle.layout.specs.Layout.{unpackOf, allowed}
 use Rattle.programme.specs.Step.{isOver}
 use Rattle.run.specs.Run.{runOf}
 use Rattle.run.specs.Tick.{Ticked, admitted, refused, countOf, answered, ranOf, judgedTick, tickOf}

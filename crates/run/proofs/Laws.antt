@@ -21,12 +21,12 @@ use Rattle.meaning.specs.declared.Decision.the-variants.{Permit, Deny, NotAppli
 use Rattle.judge.specs.Request.{judgeRequestOf}
 use Rattle.judge.specs.declared.JudgedRequest.{JudgedRequest}
 use Rattle.judge.specs.declared.JudgedRequest.the-variants as judged
-use Rattle.programme.specs.declared.Head.{Head}
-use Rattle.programme.specs.declared.State.{State}
-use Rattle.programme.specs.Layout.{unpackOf, packOf, allowed}
-use Rattle.programme.specs.Moves.{Ranged}
+use Rattle.layout.specs.declared.Head.{Head}
+use Rattle.layout.specs.declared.State.{State}
+use Rattle.layout.specs.Layout.{unpackOf, packOf, allowed}
+use Rattle.layout.specs.Ranges.{Ranged}
 use Rattle.programme.specs.Step.{mayStep, stepOf, steppedOf, stateOf, seen, after, isOver, countBy}
-use Rattle.programme.proofs.Coding.{ranged, ranged-back}
+use Rattle.layout.proofs.Coding.{ranged, ranged-back}
 use Rattle.run.specs.declared.kinds.Answer.{Answer}
 use Rattle.run.specs.declared.kinds.Answer.the-variants.{Running, Finished, Refused}
 use Rattle.run.specs.declared.kinds.Ran.{Ran}

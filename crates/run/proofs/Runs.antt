@@ -8,8 +8,8 @@ use native.Mathlib.Nat.{zero-add, add-assoc, suc-min-suc, zero-min, min-zero}
 use native.Mathlib.Numerals.{one-add}
 use native.Mathlib.Omega.{arith}
 use Rattle.meaning.specs.Meaning.{Bags}
-use Rattle.programme.specs.declared.State.{State}
-use Rattle.programme.specs.Layout.{unpackOf, allowed}
+use Rattle.layout.specs.declared.State.{State}
+use Rattle.layout.specs.Layout.{unpackOf, allowed}
 use Rattle.programme.specs.Step.{mayStep, stepOf, isOver}
 use Rattle.programme.proofs.Forward.{still-allowed, further-on}
 use Rattle.run.specs.Run.{stay, oneMore, goOn, runOf}

@@ -3,9 +3,9 @@ use Prim.Native.Nat.{ℕ, zero, suc, _+_}
 use mathlib.Core.Bool.{Bool, true, false}
 use mathlib.Core.List.{List}
 use Rattle.meaning.specs.Meaning.{Bags}
-use Rattle.programme.specs.declared.Head.{Head}
-use Rattle.programme.specs.declared.State.{State}
-use Rattle.programme.specs.Layout.{packOf}
+use Rattle.layout.specs.declared.Head.{Head}
+use Rattle.layout.specs.declared.State.{State}
+use Rattle.layout.specs.Layout.{packOf}
 use Rattle.programme.specs.Step.{mayStep, stepOf, isOver}
 use Rattle.run.specs.declared.kinds.Ran.{Ran}
 

@@ -5,8 +5,8 @@ use mathlib.Core.Bool.{Bool, true, false}
 use mathlib.Core.List.{List}
 use lib.ListN.{length}
 use Rattle.meaning.specs.Meaning.{Bags}
-use Rattle.programme.specs.declared.State.{State}
-use Rattle.programme.specs.Layout.{allowed}
+use Rattle.layout.specs.declared.State.{State}
+use Rattle.layout.specs.Layout.{allowed}
 use Rattle.programme.specs.Step.{isOver}
 use Rattle.run.specs.Run.{runOf, stay}
 use Rattle.run.specs.declared.kinds.Ran.{Ran}

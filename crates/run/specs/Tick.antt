@@ -12,8 +12,8 @@ use Rattle.meaning.specs.Reading.{bagsOf}
 use Rattle.judge.specs.Request.{judgeRequestOf}
 use Rattle.judge.specs.declared.JudgedRequest.{JudgedRequest}
 use Rattle.judge.specs.declared.JudgedRequest.the-variants as judged
-use Rattle.programme.specs.declared.State.{State}
-use Rattle.programme.specs.Layout.{unpackOf, allowed}
+use Rattle.layout.specs.declared.State.{State}
+use Rattle.layout.specs.Layout.{unpackOf, allowed}
 use Rattle.programme.specs.Step.{isOver, countBy}
 use Rattle.run.specs.declared.kinds.Answer.the-variants.{Running, Finished, Refused}
 use Rattle.run.specs.declared.kinds.Ran.{Ran}

@@ -2,8 +2,8 @@
 
 // The types stand apart, since a tick is both what is done and what it gives.
 pub mod kinds {
+    use layout::State;
     use meaning::Decision;
-    use programme::State;
     use record::Refusal;
 
     // The answer says running, or finished, with which decision and how many obligations, or why the tick was refused.
@@ -32,9 +32,9 @@ use judge::JudgedRequest;
 use kinds::Answer;
 use kinds::Ran;
 use kinds::Tick;
+use layout::Head;
+use layout::State;
 use meaning::Decision;
-use programme::Head;
-use programme::State;
 use record::Refusal;
 ghost use mathlib.Core.Path.{_≡_};
 ghost use mathlib.Core.Bool.{true};
@@ -43,8 +43,8 @@ ghost use Prim.Native.Nat.{_-_, _≤_};
 ghost use lib.ListN.{length, take, replicate};
 ghost use Rattle.record.specs.Choose.{if};
 ghost use Rattle.meaning.specs.Reading.{bagsOf};
-ghost use Rattle.programme.specs.Layout.{allowed};
-ghost use Rattle.programme.specs.Moves.{Held};
+ghost use Rattle.layout.specs.Layout.{allowed};
+ghost use Rattle.layout.specs.Ranges.{Held};
 ghost use Rattle.programme.specs.Step.{countBy, freshOf, stateOf};
 ghost use Rattle.run.specs.Run.{runOf, numberAfter};
 ghost use Rattle.run.specs.Tick.{admitted, tickOf};
@@ -83,7 +83,7 @@ fn number(steps: u64, start: u64, h: Head) -> u64
     if steps == 0 {
         return start;
     }
-    programme::words::pack(h)
+    layout::pack(h)
 }
 
 // At most so many steps, with the arrays of the state lent. The first number is taken apart once, and put together at the end.
@@ -100,7 +100,7 @@ fn run_in(
     ensures { λ r. ⌜ runOf (now (programme .entry)) (bagsOf (now (request .entry))) budget (stateOf start (now (frames .entry)) (now (levels .entry)) (now (places .entry)))
         ≡ record { ok = r .ok; state = stateOf (r .head) (now (frames .exit)) (now (levels .exit)) (now (places .exit)); steps = r .steps } ⌝ }
 {
-    let mut h = programme::words::unpack(start);
+    let mut h = layout::unpack(start);
     let mut steps: u64 = 0;
     while steps < budget {
         if h.over {
@@ -171,7 +171,7 @@ fn admits(long: usize, head: u64) -> bool
     if 2305843009213693952 <= head {
         return false;
     }
-    let h = programme::words::unpack(head);
+    let h = layout::unpack(head);
     if 16 < h.depth {
         return false;
     }
@@ -249,7 +249,7 @@ pub fn tick(programme: &[u64], request: &[u8], state: State, budget: u64, out: &
         return refused(outside, state);
     }
     let end = ran.state;
-    let h = programme::words::unpack(end.head);
+    let h = layout::unpack(end.head);
     if h.over {
         fill(&end.places, count(h), out);
     }

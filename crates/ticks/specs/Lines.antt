@@ -8,7 +8,7 @@ use Rattle.record.specs.Bytes.{mostRecords}
 use Rattle.text.specs.Text.{lf}
 use Rattle.line.specs.Line.{hexOf, decisionLine, refusalLine}
 use Rattle.meaning.specs.Numbers.{numberOf}
-use Rattle.programme.specs.declared.State.{State}
+use Rattle.layout.specs.declared.State.{State}
 use Rattle.run.specs.Tick.{tickOf}
 use Rattle.run.specs.declared.kinds.Answer.{Answer}
 use Rattle.run.specs.declared.kinds.Answer.the-variants.{Running, Finished, Refused}

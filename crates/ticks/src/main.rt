@@ -1,10 +1,10 @@
 // Translates BOOK.HEX, runs the programme for a request tick by tick, and prints a line a tick. The arguments are budgets, one a tick; the last is
 // repeated until the run is finished, unless it is 0. Without arguments a tick has 300 steps.
 use budget::Budget;
+use layout::State;
 use libc::STDERR_FILENO;
 use libc::STDIN_FILENO;
 use libc::STDOUT_FILENO;
-use programme::State;
 use record::Refusal;
 use run::kinds::Answer;
 use text::Filled;

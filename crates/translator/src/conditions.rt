@@ -15,8 +15,8 @@ ghost use lib.ListN.{length};
 ghost use Rattle.record.specs.Bytes.{size, mostRecords};
 ghost use Rattle.record.specs.Forest.{forest};
 ghost use Rattle.meaning.specs.Reading.{comparisonAt};
-ghost use Rattle.programme.specs.Entry.{further, compare};
-ghost use Rattle.programme.specs.Layout.{testWord};
+ghost use Rattle.layout.specs.Entry.{further, compare};
+ghost use Rattle.layout.specs.Layout.{testWord};
 ghost use Rattle.translator.specs.Emit.{Emitted, conditionCode, conditionsCode, whenCode};
 ghost use Rattle.translator.specs.Links.{Linked, Below};
 

@@ -7,7 +7,7 @@ ghost use Prim.Native.Nat.{suc, _*_, _-_, _/_, _≤_};
 ghost use lib.ListN.{length, replicate};
 ghost use Rattle.record.specs.Bytes.{size};
 ghost use Rattle.meaning.specs.Reading.{effectOf};
-ghost use Rattle.programme.specs.Entry.{finish};
+ghost use Rattle.layout.specs.Entry.{finish};
 ghost use Rattle.translator.specs.Emit.{Emitted, dueIn};
 
 // How many obligations on effect e are due in the records from i to `stop`: those of these children, and, in a set, of the policies and sets among them.

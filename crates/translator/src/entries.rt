@@ -1,13 +1,13 @@
 // The numbers that entries are made of, and writing them right before the place where the code behind them starts.
+use layout::bit;
 use meaning::Test;
-use programme::words::bit;
 use value::Function;
 ghost use mathlib.Core.Path.{_≡_};
 ghost use mathlib.Core.List.{[], _∷_};
 ghost use Prim.Native.Nat.{_+_, _*_, _<_};
 ghost use lib.ListN.{set};
 ghost use Rattle.meaning.specs.Reading.{effectOf};
-ghost use Rattle.programme.specs.Layout.{effectCode, functionCode, testWord};
+ghost use Rattle.layout.specs.Layout.{effectCode, functionCode, testWord};
 ghost use Rattle.translator.specs.Emit.{Wrote};
 
 // What an entry is, by its number.

@@ -1,5 +1,5 @@
 use mathlib.Core.Path.{refl}
-use Rattle.programme.specs.Layout.{packOf}
+use Rattle.layout.specs.Layout.{packOf}
 use Rattle.programme.specs.Step.{freshOf}
 use Rattle.run.proofs.fresh.Statement.{statement}
 use Rattle.run.proofs.fresh.Tie as tie

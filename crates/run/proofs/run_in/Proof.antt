@@ -4,10 +4,10 @@ use native.Mathlib.Omega.{arith}
 use borrow.Author.Tests.{not-true, not-false}
 use borrow.Author.Needs.{needs}
 use Rattle.programme.specs.Step.{stateOf}
-use Rattle.programme.specs.Layout.{unpackOf}
-use Rattle.programme.specs.Moves.{Ranged}
-use Rattle.programme.specs.declared.Head.{Head}
-use Rattle.programme.proofs.Coding.{ranged, held}
+use Rattle.layout.specs.Layout.{unpackOf}
+use Rattle.layout.specs.Ranges.{Ranged}
+use Rattle.layout.specs.declared.Head.{Head}
+use Rattle.layout.proofs.Coding.{ranged, held}
 use Rattle.meaning.specs.Reading.{bagsOf}
 use Rattle.run.specs.Run.{numberAfter}
 use Rattle.run.proofs.Laws.{Along, run-start, run-over, run-bad, run-more, run-out, apart-on}

@@ -1,8 +1,7 @@
--- `programme::entries::close_at` meets its contract. Assumes nothing.
 use Rattle.programme.proofs.Found.{met, lawful-reach}
-use Rattle.programme.specs.Layout.{levelOf}
-use Rattle.programme.specs.Core.{core}
-use Rattle.programme.specs.Entry.{close}
+use Rattle.layout.specs.Layout.{levelOf}
+use Rattle.moves.specs.Core.{core}
+use Rattle.layout.specs.Entry.{close}
 use mathlib.Core.Path.{refl}
 use borrow.Author.Needs.{needs}
 use Rattle.programme.proofs.entries.close_at.Statement.{statement}

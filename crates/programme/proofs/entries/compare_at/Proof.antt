@@ -1,8 +1,6 @@
--- `programme::entries::compare_at` meets its contract. Assumes nothing.
-use Rattle.programme.proofs.Found.{compare-short}
-use Rattle.programme.proofs.Found.{does, outside, compare-lawful}
-use Rattle.programme.specs.Layout.{compareBy, levelOf}
-use Rattle.programme.specs.Core.{core}
+use Rattle.programme.proofs.Found.{compare-short, does, outside, compare-lawful}
+use Rattle.layout.specs.Layout.{compareBy, levelOf}
+use Rattle.moves.specs.Core.{core}
 use lib.ListN.{getD}
 use borrow.Author.Tests.{not-true, not-false}
 use native.Mathlib.Omega.{arith}

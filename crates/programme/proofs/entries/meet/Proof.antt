@@ -1,7 +1,5 @@
--- `programme::entries::meet` meets its contract. Assumes nothing.
-use Rattle.programme.proofs.Found.{lawful-none, past-all}
-use Rattle.programme.proofs.Found.{outside, lawful-beyond, found}
-use Rattle.programme.specs.Layout.{entryBy, levelOf, frameOf}
+use Rattle.programme.proofs.Found.{lawful-none, past-all, outside, lawful-beyond, found}
+use Rattle.layout.specs.Layout.{entryBy, levelOf, frameOf}
 use Rattle.meaning.specs.Reading.{bagsOf}
 use native.Mathlib.Omega.{arith}
 use borrow.Author.Needs.{needs}

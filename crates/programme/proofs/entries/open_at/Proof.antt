@@ -1,8 +1,7 @@
--- `programme::entries::open_at` meets its contract. Assumes nothing.
 use Rattle.programme.proofs.Found.{met, lawful-fits}
-use Rattle.programme.specs.Layout.{opBy}
-use Rattle.programme.specs.Core.{core}
-use Rattle.programme.specs.Entry.{opens}
+use Rattle.layout.specs.Layout.{opBy}
+use Rattle.moves.specs.Core.{core}
+use Rattle.layout.specs.Entry.{opens}
 use mathlib.Core.Path.{refl}
 use borrow.Author.Needs.{needs}
 use Rattle.programme.proofs.entries.open_at.Statement.{statement}

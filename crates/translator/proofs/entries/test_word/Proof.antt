@@ -1,4 +1,4 @@
-use Rattle.programme.specs.Layout.{testWord}
+use Rattle.layout.specs.Layout.{testWord}
 use borrow.Author.Needs.{needs}
 use Rattle.translator.proofs.entries.test_word.Statement.{statement}
 use Rattle.translator.proofs.entries.test_word.Tie as tie

@@ -28,7 +28,7 @@ use Rattle.translator.proofs.policies.within.Kinds as within-kinds
 use Rattle.translator.proofs.policies.+body+tree+trees+within.Lts-within as within-lts
 use Rattle.record.proofs.byte.Reads as byte-reads
 use Rattle.translator.proofs.policies.algorithm_at.Reads as algorithm-at-reads
-use Rattle.programme.proofs.words.algorithm_code.Reads as algorithm-code-reads
+use Rattle.layout.proofs.algorithm_code.Reads as algorithm-code-reads
 use Rattle.meaning.proofs.is_party.Reads as is-party-reads
 use Rattle.translator.proofs.policies.applies.Reads as applies-reads
 use Rattle.translator.proofs.policies.beyond.Reads as beyond-reads

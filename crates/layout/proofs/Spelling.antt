@@ -1,0 +1,155 @@
+-- The numbers of an entry, and the entry that they are read as. Assumes nothing.
+use Prim.Native.Nat.{ℕ, suc, _+_, _*_, _/_, _%_, _≤_, _<_}
+use mathlib.Core.Path.{_≡_, refl, sym, ap, _∙_}
+use mathlib.Core.Bool.{Bool, true, false}
+use mathlib.Core.List.{List, _++_}
+use lib.ListN.{length, getD, drop}
+use lib.Seq.{getD-drop}
+use native.Mathlib.Nat.{add-zero}
+use native.Mathlib.Omega.{arith}
+use borrow.Author.Tests.{le-leb, lt-ltb}
+use Rattle.record.proofs.Choose.{no-false}
+use Rattle.meaning.specs.declared.Test.{Test}
+use Rattle.meaning.specs.declared.Effect.{Effect}
+use Rattle.layout.specs.Entry.{Entry, begin, match, further, opens, compare, close, rule, enter, applies, conclude, oblige, leave, finish, extra, reach, isFurther, fits}
+use Rattle.layout.specs.Layout.{bitOf, functionCode, effectCode, effectBy, opCode, algorithmCode, testOf, testWord, matchBy, compareBy, entryBy, entryOf, fetch, wordsOf}
+use Rattle.layout.proofs.Coding.{bit-back, bit-small, effect-back, effect-small, op-back, algorithm-back, algorithm-small, function-back, function-small, remainder, quotient, digit}
+
+-- an entry's test, number or cut has a property
+abbrev pub Holds : (Test → Type 0) → (ℕ → Type 0) → Entry → Type 0
+Holds T N (begin al c) = c ≤ 1000
+Holds T N (match t m c l i j x) = T t
+Holds T N further = Unit
+Holds T N (opens op) = Unit
+Holds T N (compare t n) = T t
+Holds T N (close n) = Unit
+Holds T N (rule e n) = Unit
+Holds T N (enter al) = Unit
+Holds T N (applies n) = Unit
+Holds T N (conclude n) = Unit
+Holds T N (oblige e n) = N n
+Holds T N (leave n) = Unit
+Holds T N finish = Unit
+
+-- a key of four bytes, a number of two
+abbrev pub Key : Test → Type 0
+Key t = t .key < 4294967296
+
+abbrev pub Short : ℕ → Type 0
+Short n = n < 65536
+
+pub fits-held : (e : Entry) → isFurther e ≡ false → Holds Key Short e → fits e ≡ true
+fits-held (begin al c) h g = le-leb c 1000 g
+fits-held (match t m c s i j x) h g = refl
+fits-held further h g = sym h
+fits-held (opens op) h g = refl
+fits-held (compare t n) h g = refl
+fits-held (close n) h g = refl
+fits-held (rule e n) h g = refl
+fits-held (enter al) h g = refl
+fits-held (applies n) h g = refl
+fits-held (conclude n) h g = refl
+fits-held (oblige e n) h g = lt-ltb n 65536 g
+fits-held (leave n) h g = refl
+fits-held finish h g = refl
+
+-- as many numbers as entries
+pub words-length : (e : Entry) → isFurther e ≡ false → length (wordsOf e) ≡ suc (extra e)
+unfolding wordsOf
+words-length (begin al c) h = refl
+words-length (match t m c l i j x) h = refl
+words-length further h = no-false (sym h)
+words-length (opens op) h = refl
+words-length (compare t n) h = refl
+words-length (close n) h = refl
+words-length (rule e n) h = refl
+words-length (enter al) h = refl
+words-length (applies n) h = refl
+words-length (conclude n) h = refl
+words-length (oblige e n) h = refl
+words-length (leave n) h = refl
+words-length finish h = refl
+
+-- a test, whatever stands above it
+test-small : (t : Test) → testWord t < 16
+unfolding testWord
+test-small t = omega (arith, function-small (t .function), bit-small (t .must))
+
+test-back : (t : Test) (n : ℕ) → testOf (testWord t + 16 * n) (t .key) (t .literal) ≡ t
+unfolding testOf testWord
+test-back t n =
+    let f : ℕ = functionCode (t .function) in
+    let m : ℕ = bitOf (t .must) in
+    let fs = function-small (t .function) in
+    let ms = bit-small (t .must) in
+    rw (remainder 8 (f + 8 * m + 16 * n) f (m + 2 * n) (omega arith) (omega arith), digit 8 2 (f + 8 * m + 16 * n) f m n (omega arith) (omega arith) (omega arith), function-back, bit-back)
+
+module _ (t : Test) (key : Key t) where
+  compare-back : (n : ℕ) → compareBy (testWord t + 16 * (t .key + 4294967296 * n)) (t .literal) ≡ compare t n
+  unfolding compareBy
+  compare-back n =
+      let s = test-small t in
+      let w : ℕ = testWord t + 16 * (t .key + 4294967296 * n) in
+      rw (digit 16 4294967296 w (testWord t) (t .key) n refl s key, quotient 68719476736 w (testWord t + 16 * t .key) n (omega arith) (omega arith), test-back)
+
+  match-back : (m c l : Bool) (i j x : ℕ) → j < 8192
+      → matchBy (testWord t + 16 * (bitOf m + 2 * (bitOf c + 2 * (bitOf l + 2 * (t .key + 4294967296 * i))))) (t .literal) (j + 8192 * x) ≡ match t m c l i j x
+  unfolding matchBy
+  match-back m c l i j x h =
+      let s = test-small t in
+      let ms = bit-small m in
+      let cs = bit-small c in
+      let ls = bit-small l in
+      let w : ℕ = testWord t + 16 * (bitOf m + 2 * (bitOf c + 2 * (bitOf l + 2 * (t .key + 4294967296 * i)))) in
+      rw (
+        digit 16 2 w (testWord t) (bitOf m) (bitOf c + 2 * (bitOf l + 2 * (t .key + 4294967296 * i))) refl s (omega arith),
+        digit 32 2 w (testWord t + 16 * bitOf m) (bitOf c) (bitOf l + 2 * (t .key + 4294967296 * i)) (omega arith) (omega arith) (omega arith),
+        digit 64 2 w (testWord t + 16 * bitOf m + 32 * bitOf c) (bitOf l) (t .key + 4294967296 * i) (omega arith) (omega arith) (omega arith),
+        digit 128 4294967296 w (testWord t + 16 * bitOf m + 32 * bitOf c + 64 * bitOf l) (t .key) i (omega arith) (omega arith) key,
+        quotient 549755813888 w (testWord t + 16 * bitOf m + 32 * bitOf c + 64 * bitOf l + 128 * t .key) i (omega arith) (omega arith),
+        remainder 8192 (j + 8192 * x) j x refl h,
+        quotient 8192 (j + 8192 * x) j x refl h,
+        bit-back m,
+        bit-back c,
+        bit-back l,
+        test-back,
+      )
+
+-- an effect, and a number above it
+effect-of : (e : Effect) (n : ℕ) → effectBy ((effectCode e + 2 * n) % 2) ≡ e
+effect-of e n = rw (remainder 2 (effectCode e + 2 * n) (effectCode e) n refl (omega (arith, effect-small e)), effect-back)
+
+number-of : (e : Effect) (n : ℕ) → (effectCode e + 2 * n) / 2 ≡ n
+number-of e n = quotient 2 (effectCode e + 2 * n) (effectCode e) n refl (omega (arith, effect-small e))
+
+-- the entry that the numbers of an entry spell, whatever stands behind them
+abbrev pub readAt : List ℕ → Entry
+readAt ns = entryOf (getD ns 0 0) (getD ns 1 0) (getD ns 2 0)
+
+by-op : (k n literal ways : ℕ) → k < 16 → entryOf (k + 16 * n) literal ways ≡ entryBy k n literal ways
+unfolding entryOf
+by-op k n literal ways h = rw (remainder 16 (k + 16 * n) k n refl h, quotient 16 (k + 16 * n) k n refl h)
+
+pub read-back : (e : Entry) (ns : List ℕ) → isFurther e ≡ false → Holds Key Short e → reach e < 8192 → readAt (wordsOf e ++ ns) ≡ e
+unfolding wordsOf entryBy
+read-back (begin al c) ns h g l =
+    let k : ℕ = algorithmCode al + 8 * c in
+    let s = algorithm-small al in
+    let z : 16 * k ≡ 0 + 16 * k = omega arith in
+    rw (z, by-op 0 k (getD ns 0 0) (getD ns 1 0) (omega arith), remainder 8 k (algorithmCode al) c refl (omega arith), quotient 8 k (algorithmCode al) c refl (omega arith), algorithm-back)
+read-back (match t m c s i j x) ns h g l = by-op 1 _ (t .literal) (j + 8192 * x) (omega arith) ∙ match-back t g m c s i j x (omega (arith, l))
+read-back further ns h g l = no-false (sym h)
+read-back (opens op) ns h g l = by-op 3 (opCode op) (getD ns 0 0) (getD ns 1 0) (omega arith) ∙ ap opens (op-back op)
+read-back (compare t n) ns h g l = by-op 2 _ (t .literal) (getD ns 0 0) (omega arith) ∙ compare-back t g n
+read-back (close n) ns h g l = by-op 4 n (getD ns 0 0) (getD ns 1 0) (omega arith)
+read-back (rule e n) ns h g l = by-op 5 (effectCode e + 2 * n) (getD ns 0 0) (getD ns 1 0) (omega arith) ∙ rw (effect-of, number-of)
+read-back (enter al) ns h g l = by-op 6 (algorithmCode al) (getD ns 0 0) (getD ns 1 0) (omega arith) ∙ ap enter (algorithm-back al)
+read-back (applies n) ns h g l = by-op 7 n (getD ns 0 0) (getD ns 1 0) (omega arith)
+read-back (conclude n) ns h g l = by-op 8 n (getD ns 0 0) (getD ns 1 0) (omega arith)
+read-back (oblige e n) ns h g l = by-op 9 (effectCode e + 2 * n) (getD ns 0 0) (getD ns 1 0) (omega arith) ∙ rw (effect-of, number-of)
+read-back (leave n) ns h g l = by-op 10 n (getD ns 0 0) (getD ns 1 0) (omega arith)
+read-back finish ns h g l = by-op 11 0 (getD ns 0 0) (getD ns 1 0) (omega arith)
+
+pub fetch-drop : (p : List ℕ) (i : ℕ) → fetch p i ≡ readAt (drop i p)
+unfolding fetch
+fetch-drop p i = rw (getD-drop i p 0 0, getD-drop i p 1 0, getD-drop i p 2 0, add-zero i)

@@ -1,0 +1,65 @@
+-- Laws of what an entry does, one for each return of the code that its tables do not settle. Assumes nothing.
+use Prim.Native.Nat.{ℕ, zero, suc}
+use mathlib.Core.Path.{_≡_, refl}
+use mathlib.Core.Bool.{Bool, true, false}
+use Rattle.meaning.specs.Logic.{orOf, targetAnd}
+use Rattle.meaning.specs.declared.Truth.{Truth}
+use Rattle.meaning.specs.declared.Truth.the-variants.{True, False, Unknown}
+use Rattle.meaning.specs.declared.Decision.{Decision}
+use Rattle.layout.specs.declared.Level.{Level}
+use Rattle.moves.specs.declared.Next.{Next}
+use Rattle.moves.specs.declared.Change.the-variants.{Keep, Swap, Back}
+use Rattle.moves.specs.declared.Placing.the-variants.{Rest}
+use Rattle.moves.specs.declared.Move.{Move}
+use Rattle.moves.specs.Core.{past, sectionDone, conjunctionDone, matchDone, settledBy, told, tell, closed}
+use Rattle.layout.specs.Layout.{levelWord}
+use Rattle.moves.specs.Moves.{moved, moveOf}
+
+-- targets: the result n, the truths v, u and w that came before
+module _ (n : Next) (v u : Truth) (l : Bool) (j x : ℕ) (t : Truth) (d : Decision) where
+  pub section-false : v ≡ False → u ≡ targetAnd t False → n ≡ sectionDone True l j x u d → n ≡ sectionDone v l j x t d
+  section-false e f g = on l g
+    where
+      on : (b : Bool) → n ≡ sectionDone True b j x u d → n ≡ sectionDone v b j x t d
+      on true k = rw (e, ← f) k
+      on false k = rw (e, ← f) k
+
+module _ (n : Next) (v : Truth) (c l : Bool) (i j x : ℕ) (t : Truth) (d : Decision) where
+  pub conjunction-last : c ≡ true → n ≡ sectionDone v l j x t d → n ≡ conjunctionDone v c l i j x t d
+  conjunction-last e f = rw e (on v f)
+    where
+      on : (a : Truth) → n ≡ sectionDone a l j x t d → n ≡ conjunctionDone a true l i j x t d
+      on True k = k
+      on False k = k
+      on Unknown k = k
+
+module _ (n : Next) (v w : Truth) (m c l : Bool) (i j x : ℕ) (o t : Truth) (d : Decision) where
+  pub match-last : m ≡ true → w ≡ orOf o v → n ≡ conjunctionDone w c l i j x t d → n ≡ matchDone v m c l i j x o t d
+  match-last e f g = rw e (on v (rw f at g))
+    where
+      on : (a : Truth) → n ≡ conjunctionDone (orOf o a) c l i j x t d → n ≡ matchDone a true c l i j x o t d
+      on True k = k
+      on False k = k
+      on Unknown k = k
+
+  pub match-false : v ≡ False → w ≡ orOf o False → n ≡ conjunctionDone w c l i j x t d → n ≡ matchDone v m c l i j x o t d
+  match-false e f g = rw e (rw f at g)
+
+-- conditions: the level t that was told, whether that settles it, where to go on, and its number
+module _ (r : Move) (n nest : ℕ) (l : Level) (d : Decision) (t : Level) (s : Bool) (on : Next) (w : ℕ)
+    (settles : s ≡ settledBy (t .op) (t .val)) (goes : on ≡ past s n d) (word : w ≡ levelWord t) where
+  pub tell-open : (v : Truth) → (nest ≡ 0 → ⊥) → t ≡ told l v → r ≡ moved on (Swap w) Keep Rest → r ≡ moveOf (tell v n nest l d)
+  tell-open v e f g = go nest e
+    where
+      go : (k : ℕ) → (k ≡ 0 → ⊥) → r ≡ moveOf (tell v n k l d)
+      go zero z = absurd (z refl)
+      go (suc k) z = rw (g, goes, word, settles, f)
+
+  pub close-under : (m : Level) → (nest ≡ 0 → ⊥) → (nest ≡ 1 → ⊥) → t ≡ told m (l .val) → r ≡ moved on (Back w) Keep Rest
+      → r ≡ moveOf (closed n nest l m d)
+  close-under m e f g i = go nest e f
+    where
+      go : (k : ℕ) → (k ≡ 0 → ⊥) → (k ≡ 1 → ⊥) → r ≡ moveOf (closed n k l m d)
+      go zero z y = absurd (z refl)
+      go (suc zero) z y = absurd (y refl)
+      go (suc (suc k)) z y = rw (i, goes, word, settles, g)

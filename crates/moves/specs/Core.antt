@@ -1,0 +1,181 @@
+-- What a step does, from the entry, the two levels and the two frames on top, and the first number. It sees no obligation place. Assumes nothing.
+use Prim.Native.Nat.{ℕ, zero, suc, _+_, _-_, min}
+use mathlib.Core.Bool.{Bool, true, false}
+use lib.Dec.{leb, ltb}
+use Rattle.record.specs.Choose.{if, both}
+use Rattle.meaning.specs.Logic.{andOf, orOf, notOf, targetAnd}
+use Rattle.meaning.specs.Meaning.{Bags, matchOf, comparisonOf, under, decisionOf, is}
+use Rattle.meaning.specs.declared.Truth.{Truth}
+use Rattle.meaning.specs.declared.Truth.the-variants.{True, False, Unknown}
+use Rattle.meaning.specs.declared.Effect.{Effect}
+use Rattle.meaning.specs.declared.Effect.the-variants.{Permits, Denies}
+use Rattle.meaning.specs.declared.Decision.{Decision}
+use Rattle.meaning.specs.declared.Decision.the-variants.{Permit, Deny, NotApplicable, Indeterminate}
+use Rattle.algorithm.specs.Fold.{start, result, settled, absorb}
+use Rattle.algorithm.specs.declared.Acc.{Acc}
+use Rattle.algorithm.specs.declared.Acc.the-variants.{Ranked, Nobody, Pending, Two, One}
+use Rattle.layout.specs.declared.Op.{Op}
+use Rattle.layout.specs.declared.Op.the-variants.{All, Any, Not}
+use Rattle.layout.specs.declared.Level.{Level}
+use Rattle.layout.specs.declared.Frame.{Frame}
+use Rattle.layout.specs.declared.Head.{Head}
+use Rattle.moves.specs.declared.Next.{Next}
+use Rattle.moves.specs.declared.Placing.{Placing}
+use Rattle.moves.specs.declared.Placing.the-variants.{Rest, AddPermit, AddDeny, FallPermit, FallDeny, FallBoth, Cut, Down}
+use Rattle.layout.specs.Entry.{Entry, begin, match, further, opens, compare, close, rule, enter, applies, conclude, oblige, leave, finish}
+
+-- what becomes of a stack: at most one of its two on top is written
+pub data Changing (A : Type 0) : Type 0 where
+  keep : Changing A
+  push swap below back : A → Changing A
+
+pub record Out : Type 0 where
+  pub next : Next
+  pub over : Bool
+  pub levels : Changing Level
+  pub frames : Changing Frame
+  pub placing : Placing
+
+abbrev pub next : ℕ → Decision → Truth → Truth → Truth → Next
+next n r a o t = record { jump = n; reg = r; ands = a; ors = o; sections = t }
+
+abbrev pub out : Next → Changing Level → Changing Frame → Placing → Out
+out n ls fs z = record { next = n; over = false; levels = ls; frames = fs; placing = z }
+
+-- the register and the truths as they are between targets and conditions, and how far to go on: over n entries if b
+abbrev pub clear : ℕ → Decision → Next
+clear n r = next n r True False True
+
+abbrev pub past : Bool → ℕ → Decision → Next
+past b n r = clear (if b n 0) r
+
+-- a settled target, section, conjunction, match: i to the next conjunction, j to the next section, x out of the target
+abbrev pub targetDone : Truth → ℕ → ℕ → Decision → Next
+targetDone True j x r = clear j r
+targetDone False j x r = clear x NotApplicable
+targetDone Unknown j x r = clear x Indeterminate
+
+abbrev pub sectionDone : Truth → Bool → ℕ → ℕ → Truth → Decision → Next
+sectionDone Unknown l j x t r = clear x Indeterminate
+sectionDone True true j x t r = targetDone t j x r
+sectionDone False true j x t r = targetDone (targetAnd t False) j x r
+sectionDone True false j x t r = next j r True False t
+sectionDone False false j x t r = next j r True False (targetAnd t False)
+
+abbrev pub conjunctionDone : Truth → Bool → Bool → ℕ → ℕ → ℕ → Truth → Decision → Next
+conjunctionDone True c l i j x t r = sectionDone True l j x t r
+conjunctionDone False true l i j x t r = sectionDone False l j x t r
+conjunctionDone Unknown true l i j x t r = sectionDone Unknown l j x t r
+conjunctionDone False false l i j x t r = next i r True False t
+conjunctionDone Unknown false l i j x t r = next i r True Unknown t
+
+abbrev pub matchDone : Truth → Bool → Bool → Bool → ℕ → ℕ → ℕ → Truth → Truth → Decision → Next
+matchDone False m c l i j x o t r = conjunctionDone (orOf o False) c l i j x t r
+matchDone True true c l i j x o t r = conjunctionDone (orOf o True) c l i j x t r
+matchDone Unknown true c l i j x o t r = conjunctionDone (orOf o Unknown) c l i j x t r
+matchDone True false c l i j x o t r = next 0 r True o t
+matchDone Unknown false c l i j x o t r = next 0 r Unknown o t
+
+-- conditions: and, or and not before their first part, with one part more, and when no further part matters
+abbrev pub startOf : Op → Truth
+startOf All = True
+startOf Any = False
+startOf Not = True
+
+abbrev pub foldOf : Op → Truth → Truth → Truth
+foldOf All a v = andOf a v
+foldOf Any a v = orOf a v
+foldOf Not a v = notOf v
+
+abbrev pub settledBy : Op → Truth → Bool
+settledBy All False = true
+settledBy All True = false
+settledBy All Unknown = false
+settledBy Any True = true
+settledBy Any False = false
+settledBy Any Unknown = false
+settledBy Not a = false
+
+abbrev pub told : Level → Truth → Level
+told l v = record { op = l .op; val = foldOf (l .op) (l .val) v }
+
+-- in the register Permit stands for True, NotApplicable for False
+abbrev pub through : Truth → Decision
+through t = under t Permit
+
+-- a part has the value v: the level is told, or, where no condition is open, the register holds it
+abbrev pub tell : Truth → ℕ → ℕ → Level → Decision → Out
+tell v n zero l r = out (clear 0 (through v)) keep keep Rest
+tell v n (suc k) l r = out (past (settledBy (l .op) (told l v .val)) n r) (swap (told l v)) keep Rest
+
+-- the condition on top, of k that are open, is closed: it tells its value to the one below
+abbrev pub closed : ℕ → ℕ → Level → Level → Decision → Out
+closed n zero l m r = out (clear 0 r) keep keep Rest
+closed n (suc zero) l m r = out (clear 0 (through (l .val))) (back m) keep Rest
+closed n (suc (suc k)) l m r = out (past (settledBy (m .op) (told m (l .val) .val)) n r) (back (told m (l .val))) keep Rest
+
+-- rules, policies and sets
+abbrev pub ruled : Effect → Decision → Decision
+ruled e Permit = decisionOf e
+ruled e Deny = decisionOf e
+ruled e NotApplicable = NotApplicable
+ruled e Indeterminate = Indeterminate
+
+abbrev pub put : Frame → Acc → Frame
+put f a = record { alg = f .alg; acc = a; permits = f .permits; denies = f .denies }
+
+abbrev pub concluded : Decision → ℕ → ℕ → ℕ → Out
+concluded Permit n p d = out (clear 0 Permit) keep keep (FallDeny d)
+concluded Deny n p d = out (clear 0 Deny) keep keep (FallPermit p)
+concluded NotApplicable n p d = out (clear n NotApplicable) keep keep (FallBoth p d)
+concluded Indeterminate n p d = out (clear n Indeterminate) keep keep (FallBoth p d)
+
+-- a child's target matches: the only-one set below notes it; a second one settles the set, and the child is left out
+abbrev pub noted : Acc → Frame → ℕ → Decision → Out
+noted Nobody h n r = out (clear 0 r) keep (below (put h Pending)) Rest
+noted Pending h n r = out (clear n Permit) keep (back (put h Two)) Rest
+noted Two h n r = out (clear n Permit) keep (back (put h Two)) Rest
+noted (One d) h n r = out (clear n Permit) keep (back (put h Two)) Rest
+noted (Ranked k) h n r = out (clear n Permit) keep (back (put h Two)) Rest
+
+abbrev pub pushed : Effect → Bool → ℕ → Placing
+pushed e false n = Rest
+pushed Permits true n = AddPermit n
+pushed Denies true n = AddDeny n
+
+-- at most two places are brought down in one step
+abbrev pub atOnce : ℕ
+atOnce = 2
+
+-- the stacks, the register and the truths stay as they are, and the run may be over
+abbrev pub ending : Head → Bool → Placing → Out
+ending h over z = record { next = next 0 (h .reg) (h .ands) (h .ors) (h .sections); over = over; levels = keep; frames = keep; placing = z }
+
+-- Deny's obligations come down while some are left above, and the run is over with the last of them. Permit's stack is empty by then, and its
+-- height counts them.
+abbrev pub finished : Bool → Head → Out
+finished true h = ending h (leb (h .denies) (h .permits + atOnce)) (Down (min atOnce (h .denies - h .permits)))
+finished false h = ending h true Rest
+
+-- the core of a step, by the first number, the entry, the levels on top and below, the frames on top and below
+unfoldable pub core : Bags → Head → Entry → Level → Level → Frame → Frame → Out
+core g h (begin al c) l m f b = out (clear 0 Permit) keep (push (record { alg = al; acc = start al; permits = 0; denies = 0 })) (Cut c)
+core g h (match t k c s i j x) l m f b =
+    out (matchDone (andOf (h .ands) (matchOf g t)) k c s i j x (h .ors) (h .sections) (h .reg)) keep keep Rest
+core g h further l m f b = out (clear 0 (h .reg)) keep keep Rest
+core g h (opens op) l m f b = out (next 0 (h .reg) (h .ands) (h .ors) (h .sections)) (push (record { op = op; val = startOf op })) keep Rest
+core g h (compare t n) l m f b = tell (comparisonOf g t) n (h .nest) l (h .reg)
+core g h (close n) l m f b = closed n (h .nest) l m (h .reg)
+core g h (rule e n) l m f b =
+    let a = absorb (f .alg) (f .acc) e (ruled e (h .reg)) in
+    out (past (settled (f .alg) a) n Permit) keep (swap (put f a)) Rest
+core g h (enter al) l m f b =
+    out (next 0 Permit (h .ands) (h .ors) (h .sections)) keep
+    (push (record { alg = al; acc = start al; permits = h .permits; denies = h .denies })) Rest
+core g h (applies n) l m f b = noted (b .acc) b n (h .reg)
+core g h (conclude n) l m f b = concluded (result (f .alg) (f .acc)) n (f .permits) (f .denies)
+core g h (oblige e n) l m f b = out (clear 0 (h .reg)) keep keep (pushed e (is (h .reg) (decisionOf e)) n)
+core g h (leave n) l m f b =
+    let a = absorb (b .alg) (b .acc) Permits (h .reg) in
+    out (past (settled (b .alg) a) n Permit) keep (back (put b a)) Rest
+core g h finish l m f b = finished (both (is (h .reg) Deny) (ltb (h .permits) (h .denies))) h
