@@ -21,10 +21,10 @@ use Rattle.programme.specs.Step.{mayStep, stepOf, isOver, countBy, freshOf}
 use Rattle.programme.proofs.Forward.{still-allowed}
 use Rattle.run.specs.Tick.{countOf, firstPlaces}
 use Rattle.promises.specs.Steps.{afterSteps, Goes}
-use Rattle.translator.specs.Flat.{Flat, flatAfter, sees, flatStep, flatRun, flatOf, Codes}
-use Rattle.translator.proofs.Packed.{packed-step}
-use Rattle.translator.proofs.Arrays.{Going}
-use Rattle.translator.proofs.Whole.{Answers}
+use Rattle.code.specs.Flat.{Flat, flatAfter, sees, flatStep, flatRun, flatOf, Codes}
+use Rattle.code.proofs.Packed.{packed-step}
+use Rattle.code.proofs.Arrays.{Going}
+use Rattle.code.proofs.Whole.{Answers}
 use Rattle.demand.specs.Course.{Answered, Course}
 
 pub fresh-allowed : allowed (freshOf .head) ≡ true

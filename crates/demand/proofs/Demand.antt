@@ -38,15 +38,15 @@ use Rattle.run.proofs.Runs.{runs-stay-allowed}
 use Rattle.promises.specs.Steps.{afterSteps}
 use Rattle.promises.proofs.Steps.{runs-are, steps-add, left-after}
 use Rattle.promises.proofs.Ticks.{tick-with}
-use Rattle.translator.specs.Code.{programme, translated, inNumbers, obligations}
-use Rattle.translator.specs.Flat.{flatOf, Codes}
-use Rattle.translator.specs.Nesting.{nestTree, deepTree}
+use Rattle.code.specs.Code.{programme, translated, inNumbers, obligations}
+use Rattle.code.specs.Flat.{flatOf, Codes}
+use Rattle.code.specs.Nesting.{nestTree, deepTree}
 use Rattle.translator.specs.Translate.{programmeOf}
-use Rattle.translator.proofs.Holding.{InTree, book-has}
-use Rattle.translator.proofs.Fetch.{numbers-length, codes, lawful-at}
-use Rattle.translator.proofs.Size.{short, recs}
-use Rattle.translator.proofs.Counted.{book-records, book-nest, obligations-le}
-use Rattle.translator.proofs.Whole.{Answers, translated-right}
+use Rattle.code.proofs.Holding.{InTree, book-has}
+use Rattle.code.proofs.Fetch.{numbers-length, codes, lawful-at}
+use Rattle.code.proofs.Size.{short, recs}
+use Rattle.code.proofs.Counted.{book-records, book-nest, obligations-le}
+use Rattle.code.proofs.Whole.{Answers, translated-right}
 use Rattle.demand.specs.Course.{Course}
 use Rattle.demand.specs.Demand.{FewEntries, Turn, ticked, afterTurns, deals, dealtOut, running, finished, answerAt, RunsRight}
 use Rattle.demand.proofs.Course.{course, fresh-allowed}

@@ -20,11 +20,11 @@ use Rattle.promises.specs.Place.{headOf}
 use Rattle.promises.specs.Sight.{Obliges}
 use Rattle.promises.specs.Steps.{afterSteps, entryAt, Met}
 use Rattle.promises.proofs.Steps.{runs-are, only-met}
-use Rattle.translator.specs.Code.{translated, obligations}
-use Rattle.translator.specs.Flat.{flatOf, Codes}
+use Rattle.code.specs.Code.{translated, obligations}
+use Rattle.code.specs.Flat.{flatOf, Codes}
 use Rattle.translator.specs.Translate.{programmeOf}
-use Rattle.translator.proofs.Holding.{InTree, book-has}
-use Rattle.translator.proofs.Words.{Padded, padded, spelled}
+use Rattle.code.proofs.Holding.{InTree, book-has}
+use Rattle.code.proofs.Words.{Padded, padded, spelled}
 use Rattle.demand.specs.Records.{Numbers, OnlyRecords}
 use Rattle.demand.proofs.Course.{course, on-the-way}
 use Rattle.demand.proofs.Demand as demand

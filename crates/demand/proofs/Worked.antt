@@ -18,7 +18,7 @@ use Rattle.stacks.specs.Machine.{copies}
 use Rattle.layout.specs.Layout.{wordsOf, testWord, fetch, entryOf, entryBy, compareBy, testOf, unpackOf, packOf, truthBy, decisionBy, effectBy, algorithmBy, accBy, rankBy, frameOf, frameWord, levelOf, levelWord}
 use Rattle.programme.specs.Step.{mayStep, stepOf, isOver, after, headAfter, seen, freshOf}
 use Rattle.run.specs.Run.{runOf}
-use Rattle.translator.specs.Code.{codeConjunction, codeSection, codeTarget, codeCondition, codeConditions, codeWhen, codeRule, codeRules, codeObligations, codeBody, codeWithin, codeShell, codeTree, codeTrees, owns, obligations, obligationsAll, codeTop, programme, translated, inNumbers}
+use Rattle.code.specs.Code.{codeConjunction, codeSection, codeTarget, codeCondition, codeConditions, codeWhen, codeRule, codeRules, codeObligations, codeBody, codeWithin, codeShell, codeTree, codeTrees, owns, obligations, obligationsAll, codeTop, programme, translated, inNumbers}
 use Rattle.translator.specs.Translate.{programmeOf}
 
 page : List ℕ

@@ -21,7 +21,7 @@ use Rattle.layout.specs.Entry.{Entry, begin, match, further, opens, compare, cl
 use Rattle.layout.specs.Layout.{allowed, wordsOf}
 use Rattle.programme.specs.Step.{stateOf}
 use Rattle.run.specs.declared.kinds.Answer.the-variants.{Refused}
-use Rattle.translator.specs.Code.{translated as code, inNumbers}
+use Rattle.code.specs.Code.{translated as code, inNumbers}
 use Rattle.translator.specs.Translate.{programmeOf, roomFor, answerTo, translateOf}
 use Rattle.translator.specs.declared.Translated.{Translated}
 use Rattle.translator.specs.declared.Translated.the-variants as translated

@@ -21,7 +21,7 @@ ghost use Rattle.record.specs.Forest.{forest};
 ghost use Rattle.meaning.specs.Meaning.{overPolicies};
 ghost use Rattle.meaning.specs.Reading.{policiesBy};
 ghost use Rattle.algorithm.specs.Fold.{isOnly};
-ghost use Rattle.translator.specs.Code.{codeApplies};
+ghost use Rattle.code.specs.Code.{codeApplies};
 ghost use Rattle.translator.specs.Emit.{Emitted, algorithmAt, ruleCode, rulesCode, obligationsCode, treeCode, treesCode, bodyCode, withinCode};
 ghost use Rattle.translator.specs.Links.{Linked};
 

@@ -6,7 +6,7 @@ use borrow.Author.Needs.{needs}
 use Rattle.meaning.specs.Meaning.{overPolicies}
 use Rattle.meaning.specs.Reading.{policiesBy}
 use Rattle.algorithm.specs.Fold.{isOnly}
-use Rattle.translator.specs.Code.{codeApplies}
+use Rattle.code.specs.Code.{codeApplies}
 use Rattle.translator.specs.Emit.{obligationsCode, bodyCode}
 use Rattle.translator.proofs.Links.{piece-of, linked-at, linked-below}
 use Rattle.translator.proofs.Turns.{Going, go-begin, go-less, go-below, go-bytes, go-room, go-again, go-skip, go-end, treesTo, trees-stop, trees-turn, trees-skip, trees-grow, set-to, policy-to, body-to, within-to}

@@ -1,0 +1,14 @@
+pub mod Arrays
+pub mod Counted
+pub mod Fetch
+pub mod Goes
+pub mod Holding
+pub mod Inside
+pub mod Lists
+pub mod Nodes
+pub mod Packed
+pub mod Rules
+pub mod Size
+pub mod Small
+pub mod Whole
+pub mod Words
