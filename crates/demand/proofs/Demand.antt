@@ -18,7 +18,7 @@ use Rattle.meaning.specs.declared.Decision.{Decision}
 use Rattle.meaning.specs.declared.Effect.the-variants.{Permits, Denies}
 use Rattle.judge.specs.Judge.{judgeOf}
 use Rattle.judge.specs.Request.{judgeRequestOf}
-use Rattle.judge.specs.Exactly.{Keeps}
+use Rattle.placement.specs.Keeps.{Keeps}
 use Rattle.judge.specs.Sound.{Nested}
 use Rattle.judge.specs.declared.Judged.the-variants as book
 use Rattle.judge.specs.declared.JudgedRequest.the-variants as request

@@ -11,15 +11,15 @@ use native.Mathlib.Omega.{arith}
 use Rattle.record.specs.Bytes.{spanOf}
 use Rattle.record.specs.Forest.{Forest, none, node, spanIn, forest, height}
 use Rattle.record.proofs.Forests.{span-stated, forest-none, forest-step}
-use Rattle.judge.specs.Place.{endOf, depthOf}
+use Rattle.placement.specs.Place.{endOf, depthOf}
 use Rattle.fields.specs.First.{countBelow}
 use Rattle.judge.specs.Sound.{Nested}
-use Rattle.judge.specs.Exactly.{Keeps}
+use Rattle.placement.specs.Keeps.{Keeps}
 use Rattle.judge.specs.Judge.{judgeOf}
 use Rattle.judge.specs.declared.Judged.the-variants.{Accepted}
 use Rattle.judge.proofs.Exactly.{accepted-keeps}
 use Rattle.judge.proofs.Sound.{kept-nests}
-use Rattle.judge.proofs.Laws.{depth-under}
+use Rattle.placement.proofs.Laws.{depth-under}
 
 height-none : (f : Forest) → f ≡ none → height f ≡ 0
 unfolding height

@@ -13,12 +13,13 @@ use Rattle.record.specs.declared.Refusal.{Refusal}
 use Rattle.fields.specs.First.{firstFrom}
 use Rattle.fields.specs.Fields.{fieldOk, obligationsOf}
 use Rattle.fields.proofs.First.{by, first-before, first-fails, first-is, first-reach}
-use Rattle.judge.specs.Place.{placeOk, brokenAt}
+use Rattle.placement.specs.Place.{placeOk, brokenAt}
 use Rattle.judge.specs.Judge.{firstField, firstPlace, placeRefusal, judgeRecords, judgeOf}
-use Rattle.judge.specs.Exactly.{AllKeep, FirstToBreak, Sized, Keeps, Breaks, empty, cut, many, field, place, AcceptedKeeps, KeptIsAccepted, RefusedBreaks, BrokenIsRefused}
+use Rattle.placement.specs.Keeps.{AllKeep, FirstToBreak, Sized, Keeps}
+use Rattle.judge.specs.Exactly.{Breaks, empty, cut, many, field, place, AcceptedKeeps, KeptIsAccepted, RefusedBreaks, BrokenIsRefused}
 use Rattle.judge.specs.declared.Judged.{Judged}
 use Rattle.judge.specs.declared.Judged.the-variants.{Accepted, Refused}
-use Rattle.judge.proofs.Laws.{some-ltb, none-ltb}
+use Rattle.judge.proofs.Answers.{some-ltb, none-ltb}
 
 absurd-judged : {A : Type 0} {n m : ℕ} {r : Refusal} → Accepted n m ≡ Refused r → A
 absurd-judged e = let z : _≡_ {A = ℕ} 0 1 = cc in absurd (omega arith)

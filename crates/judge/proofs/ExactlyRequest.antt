@@ -15,7 +15,7 @@ use Rattle.judge.specs.Request.{firstEntry, judgeEntries, judgeRequestOf
 use Rattle.judge.specs.ExactlyRequest.{SizedRequest, KeepsRequest, BreaksRequest, cut, many, field, AcceptedRequestKeeps, KeptRequestIsAccepted, RefusedRequestBreaks, BrokenRequestIsRefused}
 use Rattle.judge.specs.declared.JudgedRequest.{JudgedRequest}
 use Rattle.judge.specs.declared.JudgedRequest.the-variants.{Accepted, Refused}
-use Rattle.judge.proofs.Laws.{some-ltb, none-ltb}
+use Rattle.judge.proofs.Answers.{some-ltb, none-ltb}
 use Rattle.judge.proofs.Exactly.{first-break, break-first, all-keep}
 
 absurd-judged : {A : Type 0} {n : ℕ} {r : Refusal} → Accepted n ≡ Refused r → A

@@ -11,7 +11,7 @@ use Rattle.value.specs.Value.{finiteOf}
 use Rattle.fields.specs.First.{countBelow, lastBelow, firstFrom}
 use Rattle.fields.specs.Fields.{kindOf, kindAt, typeOf, typeAt, finite, zeros, plainOk, sectionOk, comparesOk, obligationOk, fieldOk, obligationsOf}
 use Rattle.fields.specs.Entries.{entryOk}
-use Rattle.judge.specs.Place.{endOf, parentOf, elderOf, depthOf, holdsConditions, singleOf, rankAt, elderRank, standsOk, childRule, childBroken, topOk, brokenAt, placeOk}
+use Rattle.placement.specs.Place.{endOf, parentOf, elderOf, depthOf, holdsConditions, singleOf, rankAt, elderRank, standsOk, childRule, childBroken, topOk, brokenAt, placeOk}
 use Rattle.judge.specs.Judge.{judgeRecords, judgeOf, placeRule}
 use Rattle.judge.specs.Request.{judgeEntries, judgeRequestOf}
 use Rattle.judge.specs.declared.Judged.{Judged}

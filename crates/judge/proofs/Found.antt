@@ -10,8 +10,8 @@ use Rattle.record.specs.declared.Refusal.{Refusal}
 use Rattle.fields.specs.First.{firstFrom}
 use Rattle.fields.specs.Fields.{fieldOk}
 use Rattle.fields.proofs.First.{first-reach, first-le}
-use Rattle.judge.specs.Place.{placeOk}
-use Rattle.judge.specs.Walk.{Finds}
+use Rattle.placement.specs.Place.{placeOk}
+use Rattle.placement.specs.Walk.{Finds}
 use Rattle.judge.specs.Judge.{judgeOf, placeRule}
 use Rattle.judge.specs.Exactly.{Breaks, empty, cut, many, field, place}
 use Rattle.judge.specs.declared.Judged.the-variants.{Accepted, Refused}

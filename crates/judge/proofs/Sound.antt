@@ -20,10 +20,10 @@ use Rattle.fields.specs.declared.Kind.{Kind}
 use Rattle.fields.specs.declared.Kind.the-variants.{PolicySet, Policy, Rule, Section, Conjunction, Match, Logic, Not, Comparison, Obligation, Nothing}
 use Rattle.fields.proofs.First.{by, last-ge, last-of}
 use Rattle.fields.proofs.Spans.{span-pos, category-pos}
-use Rattle.judge.specs.Place.{endOf, covers, parentOf, depthOf, kindNumber, singleOf, elderOf, elderRank, rankOf, rankAt, riseOf, underOk, standsOk, childBroken, topOk, brokenAt, placeOk}
-use Rattle.judge.specs.Exactly.{AllKeep, Sized, Keeps}
+use Rattle.placement.specs.Place.{endOf, covers, parentOf, depthOf, kindNumber, singleOf, elderOf, elderRank, rankOf, rankAt, riseOf, underOk, standsOk, childBroken, topOk, brokenAt, placeOk}
+use Rattle.placement.specs.Keeps.{AllKeep, Sized, Keeps}
 use Rattle.judge.specs.Sound.{Nested, WholeRow, KeptNests, OneTree, stated, NoCut, DepthIs, AfterAll, OkIsPlaced, PlacedIsOk, KeptInOrder}
-use Rattle.judge.proofs.Laws.{depth-under, ends-within, parent-ge, parent-of, kept-at, stands-parts, all-but, rule-zero}
+use Rattle.placement.proofs.Laws.{depth-under, ends-within, parent-ge, parent-of, kept-at, stands-parts, all-but, rule-zero}
 
 -- line 1 is a policy set or a policy, and covers all
 top-true : (t : Bool) → _≡_ {A = ℕ} (if t 0 9) 0 → t ≡ true

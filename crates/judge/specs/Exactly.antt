@@ -1,39 +1,17 @@
 -- What is claimed of a book's judgement, "given exactly when": a refusal names the first line that breaks the rule, and what is accepted breaks none.
 -- `proofs/Exactly.antt` proves it. Assumes nothing.
-use Prim.Native.Nat.{ℕ, _+_, _*_, _%_, _≤_, _<_}
+use Prim.Native.Nat.{ℕ, _+_, _*_, _%_, _<_}
 use mathlib.Core.Path.{_≡_}
-use mathlib.Core.Bool.{Bool, true, false}
 use mathlib.Core.List.{List}
 use lib.ListN.{length}
 use Rattle.record.specs.Bytes.{size, mostRecords}
 use Rattle.record.specs.Refusals.{book, noRecord, cutShort, tooMany, badField}
 use Rattle.record.specs.declared.Refusal.{Refusal}
 use Rattle.fields.specs.Fields.{fieldOk, obligationsOf}
-use Rattle.judge.specs.Place.{placeOk, brokenAt}
+use Rattle.placement.specs.Place.{placeOk, brokenAt}
 use Rattle.judge.specs.Judge.{placeRefusal, judgeOf}
 use Rattle.judge.specs.declared.Judged.the-variants.{Accepted, Refused}
-
--- each of n keeps a rule
-abbrev pub AllKeep : (ℕ → Bool) → ℕ → Type 0
-AllKeep f n = (i : ℕ) → i < n → f i ≡ true
-
--- of n, i is the first that breaks a rule
-pub record FirstToBreak (f : ℕ → Bool) (n i : ℕ) : Type 0 where
-  pub inside : i < n
-  pub breaks : f i ≡ false
-  pub before : AllKeep f i
-
--- as many bytes as n records have, as a book may
-pub record Sized (b : List ℕ) (n : ℕ) : Type 0 where
-  pub bytes : length b ≡ n * size
-  pub some : 1 ≤ n
-  pub most : n ≤ mostRecords
-
--- a book of n records that breaks no rule
-pub record Keeps (b : List ℕ) (n : ℕ) : Type 0 where
-  pub sized : Sized b n
-  pub fields : AllKeep (fieldOk b) n
-  pub places : AllKeep (placeOk b) n
+use Rattle.placement.specs.Keeps.{AllKeep, FirstToBreak, Sized, Keeps}
 
 -- bytes that break a rule, with the refusal for it
 pub data Breaks (b : List ℕ) (r : Refusal) : Type 0 where

@@ -8,7 +8,7 @@ use Rattle.record.specs.Refusals.{request, cutShort, tooMany, badField}
 use Rattle.record.specs.declared.Refusal.{Refusal}
 use Rattle.fields.specs.Entries.{entryOk}
 use Rattle.judge.specs.Request.{judgeRequestOf}
-use Rattle.judge.specs.Exactly.{AllKeep, FirstToBreak}
+use Rattle.placement.specs.Keeps.{AllKeep, FirstToBreak}
 use Rattle.judge.specs.declared.JudgedRequest.the-variants.{Accepted, Refused}
 
 -- as many bytes as n entries have, as a request may

@@ -9,7 +9,7 @@ use Rattle.record.specs.Refusals.{book, noRecord, cutShort, tooMany, badField, 
 use Rattle.record.specs.declared.Refusal.{Refusal}
 use Rattle.fields.specs.First.{firstFrom}
 use Rattle.fields.specs.Fields.{fieldOk, obligationsOf}
-use Rattle.judge.specs.Place.{placeOk, brokenAt}
+use Rattle.placement.specs.Place.{placeOk, brokenAt}
 use Rattle.judge.specs.declared.Judged.{Judged}
 use Rattle.judge.specs.declared.Judged.the-variants.{Accepted, Refused}
 

@@ -7,8 +7,8 @@ use Rattle.record.specs.Bytes.{byteOf, spanOf}
 use Rattle.record.specs.Forest.{Forest, none, node, growF, forest}
 use Rattle.fields.specs.Fields.{kindAt, fieldOk}
 use Rattle.fields.specs.declared.Kind.the-variants.{Match}
-use Rattle.judge.specs.Place.{mostDepth, endOf, parentOf, depthOf, kindNumber, takesOf, rankAt, riseOf, placeOk}
-use Rattle.judge.specs.Exactly.{AllKeep, Sized, Keeps}
+use Rattle.placement.specs.Place.{mostDepth, endOf, parentOf, depthOf, kindNumber, takesOf, rankAt, riseOf, placeOk}
+use Rattle.placement.specs.Keeps.{AllKeep, Sized, Keeps}
 
 -- spans that nest: each is at least 1, ends within the book, and covers each record that it covers to its end; the first covers all
 pub record Nested (b : List ℕ) (n : ℕ) : Type 0 where
@@ -37,10 +37,7 @@ stated b i left = growF (λ (j l : ℕ). spanOf b j) left i left
 abbrev pub NoCut : Type 0
 NoCut = (b : List ℕ) (n : ℕ) → Nested b n → forest b 0 n ≡ stated b 0 n
 
--- the parent is the record before that covers the place, where none between does; and each record stands one deeper than its parent
-abbrev pub ParentIs : Type 0
-ParentIs = (b : List ℕ) (p i : ℕ) → p < i → i < endOf b p → ((j : ℕ) → p < j → j < i → endOf b j ≤ i) → parentOf b i ≡ p
-
+-- each record stands one deeper than its parent
 abbrev pub DepthIs : Type 0
 DepthIs = (b : List ℕ) (n : ℕ) → Nested b n → (i : ℕ) → 0 < i → i < n → depthOf b i ≡ depthOf b (parentOf b i) + 1
 

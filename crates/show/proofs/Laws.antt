@@ -13,7 +13,7 @@ use Rattle.record.specs.Bytes.{size, spanOf}
 use Rattle.record.specs.declared.Refusal.{Refusal}
 use Rattle.fields.specs.First.{countBelow, lastBelow, firstFrom}
 use Rattle.fields.proofs.First.{count-more, first-none, first-here, first-next}
-use Rattle.judge.specs.Place.{endOf, covers, depthOf, parentOf}
+use Rattle.placement.specs.Place.{endOf, covers, depthOf, parentOf}
 use Rattle.judge.specs.Judge.{judgeOf}
 use Rattle.judge.specs.Exactly.{Breaks, empty, cut, many, field, place}
 use Rattle.judge.specs.declared.Judged.the-variants.{Refused}

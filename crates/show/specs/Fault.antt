@@ -9,7 +9,7 @@ use Rattle.fields.specs.declared.Kind.{Kind}
 use Rattle.fields.specs.declared.Kind.the-variants.{PolicySet, Policy, Rule, Section, Conjunction, Match, Logic, Not, Comparison, Obligation, Nothing}
 use Rattle.fields.specs.declared.Sort.{Sort}
 use Rattle.fields.specs.declared.Sort.the-variants.{Integer, Name, Double, Other}
-use Rattle.judge.specs.Place.{parentOf}
+use Rattle.placement.specs.Place.{parentOf}
 
 -- field rules: kind, choice, span
 abbrev pub noKind : ℕ

@@ -10,7 +10,7 @@ ghost use mathlib.Core.Path.{_≡_};
 ghost use Prim.Native.Nat.{_+_, _*_, _≤_, min};
 ghost use lib.ListN.{length};
 ghost use Rattle.record.specs.Bytes.{size};
-ghost use Rattle.judge.specs.Place.{mostDepth};
+ghost use Rattle.placement.specs.Place.{mostDepth};
 ghost use Rattle.show.specs.Outline.{blanksOf};
 ghost use Rattle.show.specs.Written.{Inside};
 
@@ -34,8 +34,8 @@ fn blanks(n: usize) -> usize
 fn indent(d: usize) -> usize
     ensures { λ r. ⌜ r ≡ 2 * min mostDepth d ⌝ }
 {
-    if judge::MOST_DEPTH < d {
-        return 2 * judge::MOST_DEPTH;
+    if placement::MOST_DEPTH < d {
+        return 2 * placement::MOST_DEPTH;
     }
     2 * d
 }

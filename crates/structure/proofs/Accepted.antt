@@ -9,12 +9,12 @@ use borrow.Author.Tests.{eqb-true, ltb-true, ltb-false}
 use Rattle.record.specs.Bytes.{byteOf, spanOf}
 use Rattle.fields.specs.Fields.{kindAt, fieldOk}
 use Rattle.fields.proofs.First.{by, first-reach-all}
-use Rattle.judge.specs.Place.{kindNumber, rankAt, standsOk, childRule, brokenAt, placeOk}
-use Rattle.judge.specs.Walk.{Walk}
-use Rattle.judge.specs.Row.{Row}
-use Rattle.judge.specs.Exactly.{Sized, Keeps}
-use Rattle.judge.proofs.Laws.{span-end, rule-is, rule-none, stands-parts, Passed, passed, bounds, kids, rest, top-walk}
-use Rattle.judge.proofs.Rows.{row-none, row-then, row-child}
+use Rattle.placement.specs.Place.{kindNumber, rankAt, standsOk, childRule, brokenAt, placeOk}
+use Rattle.placement.specs.Walk.{Walk}
+use Rattle.grammar.specs.Row.{Row}
+use Rattle.placement.specs.Keeps.{Sized, Keeps}
+use Rattle.placement.proofs.Laws.{span-end, rule-is, rule-none, stands-parts, Passed, passed, bounds, kids, rest, top-walk}
+use Rattle.grammar.proofs.Rows.{row-none, row-then, row-child}
 use Rattle.judge.proofs.Sound.{top-kept}
 use Rattle.structure.specs.Sound.{Parent, asParent, lineOne, soundAt}
 use Rattle.structure.proofs.Sound.{FirstChild, first-of, of-first, sound-none, rank-of}

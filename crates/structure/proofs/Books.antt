@@ -15,8 +15,8 @@ use Rattle.record.proofs.Forests.{span-stated, forest-step}
 use Rattle.fields.specs.Fields.{kindAt}
 use Rattle.fields.specs.declared.Kind.{Kind}
 use Rattle.fields.specs.declared.Kind.the-variants.{PolicySet, Policy}
-use Rattle.judge.specs.Place.{mostDepth, kindNumber, rankAt, standsOk}
-use Rattle.judge.proofs.Laws.{stands-parts, all-but}
+use Rattle.placement.specs.Place.{mostDepth, kindNumber, rankAt, standsOk}
+use Rattle.placement.proofs.Laws.{stands-parts, all-but}
 use Rattle.judge.proofs.Sound.{under-is}
 use Rattle.structure.specs.Subtrees.{recordAt, subtreesIn, subtreesOf}
 use Rattle.structure.specs.Sound.{Parent, asParent, lineOne, sound, soundAt}

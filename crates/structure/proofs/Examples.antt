@@ -11,7 +11,7 @@ use Rattle.record.specs.Table.{tab}
 use Rattle.record.proofs.BookA.{bytes, lines, bookA}
 use Rattle.value.specs.Value.{finiteOf}
 use Rattle.fields.specs.Fields.{kindOf, kindAt, typeOf, typeAt, finite, zeros, plainOk, sectionOk, comparesOk, obligationOk, fieldOk}
-use Rattle.judge.specs.Place.{holdsConditions, singleOf, rankAt, standsOk}
+use Rattle.placement.specs.Place.{holdsConditions, singleOf, rankAt, standsOk}
 use Rattle.judge.proofs.Examples.{nested}
 use Rattle.structure.specs.Subtrees.{recordCount, recordAt, subtreesIn, subtreesOf, bytesOf, withSpan, spanned, sliceOf}
 use Rattle.structure.specs.Sound.{lineOne, recordOk, childOk, sound, soundBook, soundAt}

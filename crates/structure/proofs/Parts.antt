@@ -12,8 +12,8 @@ use Rattle.record.specs.Forest.{spanIn}
 use Rattle.record.proofs.Choose.{both-parts, no-false}
 use Rattle.record.proofs.Forests.{span-pos, span-le}
 use Rattle.fields.specs.Fields.{kindAt, fieldOk}
-use Rattle.judge.specs.Place.{kindNumber, rankAt}
-use Rattle.judge.proofs.Laws.{top-ok}
+use Rattle.placement.specs.Place.{kindNumber, rankAt}
+use Rattle.placement.proofs.Laws.{top-ok}
 use Rattle.judge.proofs.Sound.{top-kept}
 use Rattle.judge.proofs.Exactly.{accepted-keeps, kept-is-accepted}
 use Rattle.structure.specs.Subtrees.{Subtrees, noSubtree, subtree, recordCount, recordAt, subtreesOf, sliceOf, SameRecord, SameRecords}

@@ -17,7 +17,7 @@ use Rattle.record.proofs.Table.{length-tab, getD-tab}
 use Rattle.fields.specs.Fields.{kindAt, typeAt, finite, zeros, plainOk, sectionOk, comparesOk, obligationOk, rulesOf, fieldOk}
 use Rattle.fields.specs.declared.Kind.{Kind}
 use Rattle.fields.specs.declared.Kind.the-variants.{PolicySet, Policy, Rule, Section, Conjunction, Match, Logic, Not, Comparison, Obligation, Nothing}
-use Rattle.judge.specs.Place.{mostDepth, kindNumber, rankAt, standsOk}
+use Rattle.placement.specs.Place.{mostDepth, kindNumber, rankAt, standsOk}
 use Rattle.structure.specs.Subtrees.{recordAt, SameRecord, SameButSpan}
 use Rattle.structure.specs.Sound.{Parent, asParent, lineOne, recordOk, childOk}
 

@@ -15,7 +15,7 @@ use Rattle.record.specs.Forest.{spanIn}
 use Rattle.record.proofs.Choose.{no-false, both-parts}
 use Rattle.record.proofs.Forests.{span-pos, span-le}
 use Rattle.fields.proofs.First.{by}
-use Rattle.judge.specs.Exactly.{Keeps}
+use Rattle.placement.specs.Keeps.{Keeps}
 use Rattle.judge.proofs.Exactly.{accepted-keeps, kept-is-accepted}
 use Rattle.structure.specs.Subtrees.{Subtrees, noSubtree, subtree, recordCount, recordAt, subtreesOf, bytesOf, spanned, wholeRecords, sliceOf, SameRecord}
 use Rattle.structure.specs.Sound.{Parent, sound, soundBook}

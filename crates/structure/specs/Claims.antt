@@ -10,9 +10,9 @@ use Rattle.record.specs.Bytes.{Bytes, size, mostRecords, spanOf}
 use Rattle.record.specs.Forest.{forest, height}
 use Rattle.fields.specs.Fields.{kindAt, obligationsOf}
 use Rattle.fields.specs.declared.Kind.the-variants.{PolicySet, Obligation}
-use Rattle.judge.specs.Place.{mostDepth, parentOf, kindNumber, rankOf, rankAt}
+use Rattle.placement.specs.Place.{mostDepth, parentOf, kindNumber, rankOf, rankAt}
 use Rattle.judge.specs.Judge.{judgeOf}
-use Rattle.judge.specs.Exactly.{Sized, Keeps}
+use Rattle.placement.specs.Keeps.{Sized, Keeps}
 use Rattle.judge.specs.declared.Judged.the-variants.{Accepted}
 use Rattle.structure.specs.Subtrees.{Subtrees, recordCount, subtreesOf, bytesOf, spanned, wholeRecords, sliceOf, SameRecords, SameButSpan}
 use Rattle.structure.specs.Sound.{Parent, lineOne, rankAfter, soundBook, soundAt, SoundChild, SoundParts}

@@ -9,8 +9,8 @@ use lib.ListN.{length}
 use Rattle.record.specs.Choose.{both, among}
 use Rattle.record.specs.Bytes.{size, byteOf, spanOf}
 use Rattle.fields.specs.Fields.{kindAt, fieldOk}
-use Rattle.judge.specs.Place.{mostDepth, kindNumber, rankAt, standsOk, placeOk}
-use Rattle.judge.specs.Exactly.{Sized}
+use Rattle.placement.specs.Place.{mostDepth, kindNumber, rankAt, standsOk, placeOk}
+use Rattle.placement.specs.Keeps.{Sized}
 use Rattle.structure.specs.Subtrees.{Subtrees, noSubtree, subtree, recordCount, subtreesOf, sliceOf}
 
 -- what children are judged by beside their own records: how many levels are above them, the number and category of their parent, and its parent's category

@@ -1,4 +1,4 @@
-use Rattle.judge.proofs.Laws.{some-ltb, none-ltb}
+use Rattle.judge.proofs.Answers.{some-ltb, none-ltb}
 use borrow.Author.Needs.{needs}
 use native.Mathlib.Omega.{arith}
 use borrow.Author.Tests.{lt-ltb, le-ltb, eq-eqb, ne-eqb}

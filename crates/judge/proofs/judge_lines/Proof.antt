@@ -1,4 +1,4 @@
-use Rattle.judge.proofs.Laws.{accepts}
+use Rattle.judge.proofs.Answers.{accepts}
 use mathlib.Core.Path.{sym, _∙_}
 use borrow.Author.Needs.{needs}
 use native.Mathlib.Omega.{arith}

@@ -1,5 +1,5 @@
 use Prim.Native.Nat.{_*_}
-use Rattle.judge.proofs.Laws.{some-ltb, none-ltb}
+use Rattle.judge.proofs.Answers.{some-ltb, none-ltb}
 use lib.ListN.{length}
 use native.Mathlib.Omega.{arith}
 use borrow.Author.Tests.{lt-ltb, le-ltb}

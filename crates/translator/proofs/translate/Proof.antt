@@ -10,7 +10,7 @@ use borrow.Author.Tests.{lt-ltb, le-ltb}
 use Rattle.record.specs.Refusals.{noRoom}
 use Rattle.record.specs.declared.Refusal.{Refusal}
 use Rattle.judge.specs.Judge.{judgeOf}
-use Rattle.judge.specs.Exactly.{Sized}
+use Rattle.placement.specs.Keeps.{Sized}
 use Rattle.judge.specs.declared.Judged.the-variants as judged
 use Rattle.judge.proofs.Exactly.{accepted-keeps}
 use Rattle.meaning.specs.Reading.{bookOf}

@@ -1,0 +1,5 @@
+pub mod Children
+pub mod Fits
+pub mod Parties
+pub mod Parts
+pub mod Rows
