@@ -25,7 +25,7 @@ use Rattle.code.specs.Code.{translated as code, inNumbers}
 use Rattle.translator.specs.Translate.{programmeOf, roomFor, answerTo, translateOf}
 use Rattle.translator.specs.declared.Translated.{Translated}
 use Rattle.translator.specs.declared.Translated.the-variants as translated
-use Rattle.translator.proofs.Emit.{programme-short}
+use Rattle.emission.proofs.Emit.{programme-short}
 use Rattle.rig.specs.Rig.{noState, stateIn}
 
 -- lent numbers and places that hold a state that the layout allows are long enough

@@ -1,16 +1,16 @@
 // The code of rules, of obligations, and of the policies and sets that hold them.
-use crate::conditions::when;
-use crate::elders::Elders;
-use crate::elders::elder;
-use crate::entries::APPLIES;
-use crate::entries::CONCLUDE;
-use crate::entries::ENTER;
-use crate::entries::LEAVE;
-use crate::entries::OBLIGE;
-use crate::entries::RULE;
-use crate::entries::effect_code;
-use crate::entries::single;
-use crate::targets::target;
+use elders::Elders;
+use elders::elder;
+use emission::APPLIES;
+use emission::CONCLUDE;
+use emission::ENTER;
+use emission::LEAVE;
+use emission::OBLIGE;
+use emission::RULE;
+use emission::conditions::when;
+use emission::effect_code;
+use emission::single;
+use emission::targets::target;
 use layout::algorithm_code;
 use meaning::Algorithm;
 ghost use mathlib.Core.Path.{_≡_};
@@ -22,8 +22,8 @@ ghost use Rattle.meaning.specs.Meaning.{overPolicies};
 ghost use Rattle.meaning.specs.Reading.{policiesBy};
 ghost use Rattle.algorithm.specs.Fold.{isOnly};
 ghost use Rattle.code.specs.Code.{codeApplies};
-ghost use Rattle.translator.specs.Emit.{Emitted, algorithmAt, ruleCode, rulesCode, obligationsCode, treeCode, treesCode, bodyCode, withinCode};
-ghost use Rattle.translator.specs.Links.{Linked};
+ghost use Rattle.emission.specs.Emit.{Emitted, algorithmAt, ruleCode, rulesCode, obligationsCode, treeCode, treesCode, bodyCode, withinCode};
+ghost use Rattle.elders.specs.Links.{Linked};
 
 // The rule at record i, whose children end at `stop`.
 fn rule(

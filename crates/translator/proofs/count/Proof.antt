@@ -1,5 +1,5 @@
 use borrow.Author.Needs.{needs}
-use Rattle.translator.proofs.Emit.{programme-short}
+use Rattle.emission.proofs.Emit.{programme-short}
 use Rattle.translator.proofs.count.Statement.{statement}
 use Rattle.translator.proofs.count.Tie as tie
 

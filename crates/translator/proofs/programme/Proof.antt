@@ -1,6 +1,6 @@
 use borrow.Author.Needs.{needs}
-use Rattle.translator.proofs.Turns.{programme-to}
-use Rattle.translator.proofs.Emit.{third-fits, second-fits, first-fits, three, code-of, begun}
+use Rattle.emission.proofs.Turns.{programme-to}
+use Rattle.emission.proofs.Emit.{third-fits, second-fits, first-fits, three, code-of, begun}
 use Rattle.translator.proofs.programme.Statement.{statement}
 use Rattle.translator.proofs.programme.Tie as tie
 

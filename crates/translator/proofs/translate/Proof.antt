@@ -15,7 +15,7 @@ use Rattle.judge.specs.declared.Judged.the-variants as judged
 use Rattle.judge.proofs.Exactly.{accepted-keeps}
 use Rattle.meaning.specs.Reading.{bookOf}
 use Rattle.code.specs.Code.{translated, inNumbers}
-use Rattle.translator.specs.Emit.{Emitted}
+use Rattle.emission.specs.Emit.{Emitted}
 use Rattle.translator.specs.Translate.{programmeOf, roomFor, translateOf, leaves}
 use Rattle.translator.specs.declared.Translated.the-variants.{Entries, Refused}
 use Rattle.translator.proofs.translate.Statement.{statement}

@@ -1,6 +1,6 @@
 use native.Mathlib.Omega.{arith}
 use borrow.Author.Needs.{needs}
-use Rattle.translator.proofs.Turns.{due-by, from-first}
+use Rattle.emission.proofs.Turns.{due-by, from-first}
 use Rattle.translator.proofs.write.Statement.{statement}
 use Rattle.translator.proofs.write.Tie as tie
 

@@ -7,10 +7,10 @@ use Rattle.meaning.specs.Meaning.{overPolicies}
 use Rattle.meaning.specs.Reading.{policiesBy}
 use Rattle.algorithm.specs.Fold.{isOnly}
 use Rattle.code.specs.Code.{codeApplies}
-use Rattle.translator.specs.Emit.{obligationsCode, bodyCode}
-use Rattle.translator.proofs.Links.{piece-of, linked-at, linked-below}
-use Rattle.translator.proofs.Turns.{Going, go-begin, go-less, go-below, go-bytes, go-room, go-again, go-skip, go-end, treesTo, trees-stop, trees-turn, trees-skip, trees-grow, set-to, policy-to, body-to, within-to}
-use Rattle.translator.proofs.Emit.{third-fits, second-fits, first-fits, three, behind, past-body, past-both, nothing, same-as, differs, code-of, concluded, left-by, entered, tree-parts, trees-none}
+use Rattle.emission.specs.Emit.{obligationsCode, bodyCode}
+use Rattle.elders.proofs.Links.{piece-of, linked-at, linked-below}
+use Rattle.emission.proofs.Turns.{Going, go-begin, go-less, go-below, go-bytes, go-room, go-again, go-skip, go-end, treesTo, trees-stop, trees-turn, trees-skip, trees-grow, set-to, policy-to, body-to, within-to}
+use Rattle.emission.proofs.Emit.{third-fits, second-fits, first-fits, three, behind, past-body, past-both, nothing, same-as, differs, code-of, concluded, left-by, entered, tree-parts, trees-none}
 use borrow.Author.Tests.{not-true, not-false}
 use borrow.Fn.Kinds.{In}
 use borrow.Fn.PlainCycle.{Measures, is, falls, and}
@@ -32,11 +32,11 @@ use Rattle.layout.proofs.algorithm_code.Reads as algorithm-code-reads
 use Rattle.meaning.proofs.is_party.Reads as is-party-reads
 use Rattle.translator.proofs.policies.applies.Reads as applies-reads
 use Rattle.translator.proofs.policies.beyond.Reads as beyond-reads
-use Rattle.translator.proofs.elders.elder.Reads as elder-reads
+use Rattle.elders.proofs.elder.Reads as elder-reads
 use Rattle.translator.proofs.policies.obligations.Reads as obligations-reads
 use Rattle.translator.proofs.policies.rules_in.Reads as rules-in-reads
-use Rattle.translator.proofs.entries.single.Reads as single-reads
-use Rattle.translator.proofs.targets.target.Reads as target-reads
+use Rattle.emission.proofs.single.Reads as single-reads
+use Rattle.emission.proofs.targets.target.Reads as target-reads
 use Rattle.translator.proofs.policies.+body+tree+trees+within.{statement}
 use Rattle.translator.proofs.policies.+body+tree+trees+within.Tie.{close}
 

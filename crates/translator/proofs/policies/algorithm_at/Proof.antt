@@ -1,4 +1,4 @@
-use Rattle.translator.proofs.Emit.{set-algorithm, policy-algorithm}
+use Rattle.emission.proofs.Emit.{set-algorithm, policy-algorithm}
 use borrow.Author.Needs.{needs}
 use Rattle.translator.proofs.policies.algorithm_at.Statement.{statement}
 use Rattle.translator.proofs.policies.algorithm_at.Tie as tie

@@ -1,4 +1,4 @@
-use Rattle.translator.proofs.Emit.{nothing, as-is, fits-as, applied, applies-one, applies-none}
+use Rattle.emission.proofs.Emit.{nothing, as-is, fits-as, applied, applies-one, applies-none}
 use borrow.Author.Needs.{needs}
 use Rattle.translator.proofs.policies.applies.Statement.{statement}
 use Rattle.translator.proofs.policies.applies.Tie as tie

@@ -1,7 +1,7 @@
 use native.Mathlib.Omega.{arith}
 use borrow.Author.Needs.{needs}
-use Rattle.translator.proofs.Turns.{Going, go-begin, go-less, go-below, go-bytes, go-room, go-again, go-skip, go-end, obligationsTo, obligations-stop, obligations-turn, obligations-skip, obligations-grow}
-use Rattle.translator.proofs.Emit.{nothing, same-as, differs, effect-at, obliged, obligations-none}
+use Rattle.emission.proofs.Turns.{Going, go-begin, go-less, go-below, go-bytes, go-room, go-again, go-skip, go-end, obligationsTo, obligations-stop, obligations-turn, obligations-skip, obligations-grow}
+use Rattle.emission.proofs.Emit.{nothing, same-as, differs, effect-at, obliged, obligations-none}
 use Rattle.translator.proofs.policies.obligations.Statement.{statement}
 use Rattle.translator.proofs.policies.obligations.Tie as tie
 

@@ -1,8 +1,8 @@
 use mathlib.Core.Path.{refl}
 use borrow.Author.Needs.{needs}
-use Rattle.translator.proofs.Links.{linked-below}
-use Rattle.translator.proofs.Turns.{rule-to}
-use Rattle.translator.proofs.Emit.{third-fits, second-fits, first-fits, three, behind, ruled, effect-at}
+use Rattle.elders.proofs.Links.{linked-below}
+use Rattle.emission.proofs.Turns.{rule-to}
+use Rattle.emission.proofs.Emit.{third-fits, second-fits, first-fits, three, behind, ruled, effect-at}
 use Rattle.translator.proofs.policies.rule.Statement.{statement}
 use Rattle.translator.proofs.policies.rule.Tie as tie
 

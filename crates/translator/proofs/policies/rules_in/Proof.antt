@@ -1,8 +1,8 @@
 use native.Mathlib.Omega.{arith}
 use borrow.Author.Needs.{needs}
-use Rattle.translator.proofs.Links.{piece-of, linked-at}
-use Rattle.translator.proofs.Turns.{Going, go-begin, go-less, go-below, go-bytes, go-room, go-again, go-skip, go-end, rulesTo, rules-stop, rules-turn, rules-skip, rules-grow}
-use Rattle.translator.proofs.Emit.{nothing, same-as, differs, rules-none}
+use Rattle.elders.proofs.Links.{piece-of, linked-at}
+use Rattle.emission.proofs.Turns.{Going, go-begin, go-less, go-below, go-bytes, go-room, go-again, go-skip, go-end, rulesTo, rules-stop, rules-turn, rules-skip, rules-grow}
+use Rattle.emission.proofs.Emit.{nothing, same-as, differs, rules-none}
 use Rattle.translator.proofs.policies.rules_in.Statement.{statement}
 use Rattle.translator.proofs.policies.rules_in.Tie as tie
 
