@@ -27,11 +27,12 @@ use Rattle.demand.proofs.Demand.{runs-right}
 use Rattle.rig.specs.Rig.{Call, put, numbersOf, stateIn, over, freshCall, tickIn, tickCall, answered, runningNumber, finishedNumber}
 use Rattle.rig.proofs.Laws as laws
 use Rattle.calls.specs.Loop.{HoldsState, Translates, ticks, next, row, Holds, RowsAreTicks, EveryRow}
+use Rattle.layout.specs.Room.{roomP}
 
 over-length : (xs l : List ℕ) → length xs ≤ length l → length (over xs l) ≡ length l
 over-length xs l h = omega (arith, h, length-append xs (drop (length xs) l), length-drop (length xs) l)
 
-module _ (s : State) (ns ps : List ℕ) (w : Sized s) (enough : 33 ≤ length ns) (room : 1000 ≤ length ps) where
+module _ (s : State) (ns ps : List ℕ) (w : Sized s) (enough : 33 ≤ length ns) (room : roomP ≤ length ps) where
   abbrev rest : List ℕ
   rest = drop (length (numbersOf s)) ns
 
@@ -53,8 +54,8 @@ module _ (s : State) (ns ps : List ℕ) (w : Sized s) (enough : 33 ≤ length ns
       ∙ ap (take 15) (drop-at (s .frames) (s .levels ++ rest) 17 (w .frames))
       ∙ take-at (s .levels) rest 15 (w .levels))
 
-  places-back : s .places ≡ take 1000 (over (s .places) ps)
-  places-back = sym (take-at (s .places) (drop (length (s .places)) ps) 1000 (w .places))
+  places-back : s .places ≡ take roomP (over (s .places) ps)
+  places-back = sym (take-at (s .places) (drop (length (s .places)) ps) roomP (w .places))
 
   state-back : stateIn (over (numbersOf s) ns) (over (s .places) ps) ≡ s
   state-back =
@@ -98,7 +99,7 @@ row-holds p q [] c s w h = h
 row-holds p q (t ∷ ts) c s w h =
     row-holds p q ts (next p q c t) (ticked p q s t .tick .state) (ticks-stay-sized p q s (t .budget) (t .out) w) (next-holds p q c s h t w)
 
-fresh-holds : (ns ps : List ℕ) → 33 ≤ length ns → 1000 ≤ length ps → Holds (freshCall ns ps) freshOf × (freshCall ns ps .number ≡ 0)
+fresh-holds : (ns ps : List ℕ) → 33 ≤ length ns → roomP ≤ length ps → Holds (freshCall ns ps) freshOf × (freshCall ns ps .number ≡ 0)
 unfolding freshCall
 fresh-holds ns ps enough room = rw (le-ltb _ _ enough, le-ltb _ _ room) (put-holds freshOf ns ps fresh-sized enough room 0, refl)
 
@@ -127,7 +128,7 @@ every-row b q n o m bytes accepted asked buffer ns ps fits enough room =
     let os : List ℕ = obliges (bagsOf q) (bookOf b) in
     let w = runs-right b q n o m bytes accepted asked in
     let c : List Turn → Call = λ ts. row p q ts (freshCall ns ps) in
-    let e : (ts : List Turn) (t : Turn) → 1000 ≤ length (t .out) → ticks p q (c ts) t ≡ answerAt p (bagsOf q) (w .steps) (dealtOut ts) t d os =
+    let e : (ts : List Turn) (t : Turn) → roomP ≤ length (t .out) → ticks p q (c ts) t ≡ answerAt p (bagsOf q) (w .steps) (dealtOut ts) t d os =
     λ ts t l. its-tick p q (c ts) (afterTurns p q ts freshOf) (rows-are-ticks p q ns ps enough room ts) t ∙ w .gives ts t l in (
       fresh-holds ns ps enough room .1,
       record {

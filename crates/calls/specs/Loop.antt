@@ -21,11 +21,12 @@ use Rattle.promises.specs.Place.{Sized}
 use Rattle.translator.specs.Translate.{programmeOf, roomFor, translateOf, leaves}
 use Rattle.demand.specs.Demand.{Turn, afterTurns, dealtOut}
 use Rattle.rig.specs.Rig.{Call, numbersOf, stateIn, over, freshCall, tickIn, tickCall, runningNumber, finishedNumber, translatedNumber}
+use Rattle.layout.specs.Room.{roomP}
 
 -- a state that was put into lent numbers and places is the state that they hold
 abbrev pub HoldsState : Type 0
 HoldsState =
-    (s : State) (numbers places : List ℕ) → Sized s → 33 ≤ length numbers → 1000 ≤ length places
+    (s : State) (numbers places : List ℕ) → Sized s → 33 ≤ length numbers → roomP ≤ length places
     → stateIn (over (numbersOf s) numbers) (over (s .places) places) ≡ s
 
 -- the number of a translation is 256 times the entries, and the first entries of the lent buffer are the programme
@@ -49,12 +50,12 @@ row p q (t ∷ ts) c = row p q ts (next p q c t)
 -- a row of calls is a row of ticks, of any programme and request: what they leave in the lent numbers and places is the state that the ticks lead to
 pub record Holds (c : Call) (s : State) : Type 0 where
   pub numbers : 33 ≤ length (c .numbers)
-  pub places : 1000 ≤ length (c .places)
+  pub places : roomP ≤ length (c .places)
   pub state : stateIn (c .numbers) (c .places) ≡ s
 
 abbrev pub RowsAreTicks : Type 0
 RowsAreTicks =
-    (p q numbers places : List ℕ) → 33 ≤ length numbers → 1000 ≤ length places → (ts : List Turn)
+    (p q numbers places : List ℕ) → 33 ≤ length numbers → roomP ≤ length places → (ts : List Turn)
     → Holds (row p q ts (freshCall numbers places)) (afterTurns p q ts freshOf)
 
 -- the number and the output of a call after `before` steps dealt out, where the run takes k
@@ -69,13 +70,13 @@ pub record Answers (p q : List ℕ) (c : Call) (d : Decision) (os : List ℕ) : 
   pub steps : ℕ
   pub begun : 0 < steps
   pub few : steps ≤ length p
-  pub number : (ts : List Turn) (t : Turn) → 1000 ≤ length (t .out) → next p q (row p q ts c) t .number ≡ numberAt steps (dealtOut ts) (t .budget) d os
-  pub out : (ts : List Turn) (t : Turn) → 1000 ≤ length (t .out) → ticks p q (row p q ts c) t .out ≡ outAt steps (dealtOut ts) (t .budget) os (t .out)
+  pub number : (ts : List Turn) (t : Turn) → roomP ≤ length (t .out) → next p q (row p q ts c) t .number ≡ numberAt steps (dealtOut ts) (t .budget) d os
+  pub out : (ts : List Turn) (t : Turn) → roomP ≤ length (t .out) → ticks p q (row p q ts c) t .out ≡ outAt steps (dealtOut ts) (t .budget) os (t .out)
 
 -- for every accepted book and request, and all lent buffers with room: with the programme as translating left it, from the fresh state
 abbrev pub EveryRow : Type 0
 EveryRow =
     (b q : List ℕ) (n o m : ℕ) → Bytes b → judgeOf b ≡ book.Accepted n o → judgeRequestOf q ≡ request.Accepted m
-    → (buffer numbers places : List ℕ) → roomFor n ≤ length buffer → 33 ≤ length numbers → 1000 ≤ length places
+    → (buffer numbers places : List ℕ) → roomFor n ≤ length buffer → 33 ≤ length numbers → roomP ≤ length places
     → (freshCall numbers places .number ≡ 0)
     × Answers (programmeIn b buffer) q (freshCall numbers places) (decides (bagsOf q) (bookOf b)) (obliges (bagsOf q) (bookOf b))

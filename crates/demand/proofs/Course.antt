@@ -26,6 +26,7 @@ use Rattle.code.proofs.Packed.{packed-step}
 use Rattle.code.proofs.Arrays.{Going}
 use Rattle.code.proofs.Whole.{Answers}
 use Rattle.demand.specs.Course.{Answered, Course}
+use Rattle.layout.specs.Room.{roomP}
 
 pub fresh-allowed : allowed (freshOf .head) ≡ true
 unfolding allowed freshOf packOf unpackOf
@@ -69,7 +70,7 @@ module _ (p : List ℕ) (es : List Entry) (g : Bags) (same : length p ≡ length
     at-end : flatOf (afterSteps p g (w .steps) freshOf) ≡ w .ends
     at-end = reached (w .steps) (omega arith) ∙ w .runs
 
-    few-counted : (r : Decision) → countBy r (w .ends .head) ≤ 1000
+    few-counted : (r : Decision) → countBy r (w .ends .head) ≤ roomP
     few-counted Permit = w .small .permitted
     few-counted Deny = omega (arith, w .small .denied)
     few-counted NotApplicable = omega arith
@@ -79,7 +80,7 @@ module _ (p : List ℕ) (es : List Entry) (g : Bags) (same : length p ≡ length
     unfolding isOver firstPlaces countOf flatOf
     answered s e =
         let c : ℕ = countBy (w .ends .head .reg) (w .ends .head) in
-        let m : c ≤ 1000 = few-counted (w .ends .head .reg) in
+        let m : c ≤ roomP = few-counted (w .ends .head .reg) in
         let l : length (take c (w .ends .places)) ≡ c = length-take-le c (w .ends .places) (omega (arith, m, w .small .places-long)) in
         record {
           over = ap (λ (b : Flat). b .head .over) e ∙ w .over;

@@ -9,7 +9,7 @@ use native.Mathlib.Nat.{zero-add, add-zero, add-assoc}
 use native.Mathlib.Omega.{arith}
 use borrow.Author.Tests.{lt-ltb, le-leb, ltb-true, ltb-false}
 use Rattle.record.specs.Choose.{if, either}
-use Rattle.record.specs.Bytes.{size, Bytes, bigOf}
+use Rattle.record.specs.Bytes.{size, Bytes, bigOf, mostRecords}
 use Rattle.record.proofs.Laws.{big-two}
 use Rattle.meaning.specs.Policy.{Tree}
 use Rattle.meaning.specs.Meaning.{Bags, decides, obliges}
@@ -50,6 +50,7 @@ use Rattle.code.proofs.Whole.{Answers, translated-right}
 use Rattle.demand.specs.Course.{Course}
 use Rattle.demand.specs.Demand.{FewEntries, Turn, ticked, afterTurns, deals, dealtOut, running, finished, answerAt, RunsRight}
 use Rattle.demand.proofs.Course.{course, fresh-allowed}
+use Rattle.layout.specs.Room.{roomP}
 
 -- keys and numbers that are read from bytes fit
 key-small : (b : List ℕ) → Bytes b → (i : ℕ) → keyAt b i < 4294967296
@@ -77,7 +78,7 @@ tree-small b w = book-has b Key Short (tests-small b w) (λ i e. number-small b 
 -- what acceptance gives
 record Sizes (b : List ℕ) (n : ℕ) : Type 0 where
   few : recs (bookOf b) ≤ n
-  most : n ≤ 1000
+  most : n ≤ mostRecords
   nest : (nestTree (bookOf b) ≤ 16) × (deepTree (bookOf b) ≤ 14)
 
 sizes : (b : List ℕ) (n o : ℕ) → judgeOf b ≡ book.Accepted n o → Sizes b n
@@ -97,7 +98,7 @@ pub record Spelled (b p : List ℕ) (es : List Entry) (n : ℕ) : Type 0 where
   pub same : length p ≡ length es
   pub short : length p ≤ 4 * n
   pub long : length p ≤ 8008
-  pub permitted : obligations Permits (bookOf b) ≤ 1000
+  pub permitted : obligations Permits (bookOf b) ≤ roomP
   pub reads : Codes (fetch p) es
   pub laws : (i : ℕ) → i < length es → isFurther (getD es i further) ≡ false → lawful (length p) i (fetch p i) ≡ true
   pub answers : (g : Bags) → Answers g (fetch p) es (flatOf freshOf) (decides g (bookOf b)) (obliges g (bookOf b))
@@ -110,7 +111,7 @@ spelled b n o w e =
     let c : ℕ = obligations Permits x in
     let k : ℕ = (obligations Denies x - 1) / atOnce in
     let le = obligations-le x in
-    let room : obligations Permits x + obligations Denies x ≤ 1000 = omega (arith, le, s .few, s .most) in
+    let room : obligations Permits x + obligations Denies x ≤ roomP = omega (arith, le, s .few, s .most) in
     let few : length (programme x c k) ≤ 4 * recs x = short x in
     let long : length (programme x c k) ≤ 8008 = omega (arith, few, s .few, s .most) in
     let small = tree-small b w in
@@ -154,7 +155,7 @@ module _ (p q : List ℕ) (m : ℕ) (asked : judgeRequestOf q ≡ request.Accept
   either-true false = refl
 
   -- a tick after a steps
-  tick-is : (a : ℕ) (t : Turn) → a ≤ k → 1000 ≤ length (t .out)
+  tick-is : (a : ℕ) (t : Turn) → a ≤ k → roomP ≤ length (t .out)
       → ticked p q (at a) t ≡ answered (isOver (at (a + min (t .budget) (k - a)))) (at (a + min (t .budget) (k - a))) (min (t .budget) (k - a)) (t .out)
   tick-is a t l room =
       let e : a + (k - a) ≡ k = omega (arith, l) in
@@ -166,7 +167,7 @@ module _ (p q : List ℕ) (m : ℕ) (asked : judgeRequestOf q ≡ request.Accept
   answer a t = answerAt p g k a t d os
 
   -- a tick after a steps were dealt out
-  answers : (a : ℕ) (t : Turn) → 1000 ≤ length (t .out) → ticked p q (at (min a k)) t ≡ answer a t
+  answers : (a : ℕ) (t : Turn) → roomP ≤ length (t .out) → ticked p q (at (min a k)) t ≡ answer a t
   unfolding answered
   answers a t room = tick-is (min a k) t (omega arith) room ∙ go (ltb (a + t .budget) k) refl
     where
@@ -187,29 +188,29 @@ module _ (p q : List ℕ) (m : ℕ) (asked : judgeRequestOf q ≡ request.Accept
           rw (f, h, w .answer .over, w .answer .decision, w .answer .obligations, w .answer .count) refl
 
   -- a turn without room is refused
-  stays : (a : ℕ) (t : Turn) → length (t .out) < 1000 → ticked p q (at a) t .tick .state ≡ at a
+  stays : (a : ℕ) (t : Turn) → length (t .out) < roomP → ticked p q (at a) t .tick .state ≡ at a
   unfolding tickOf
-  stays a t l = rw (asked, lt-ltb (length (t .out)) 1000 l) refl
+  stays a t l = rw (asked, lt-ltb (length (t .out)) roomP l) refl
 
   -- after any turns
   turn-leads : (a : ℕ) (t : Turn) → ticked p q (at (min a k)) t .tick .state ≡ at (min (a + deals t) k)
-  turn-leads a t = go (ltb (length (t .out)) 1000) refl
+  turn-leads a t = go (ltb (length (t .out)) roomP) refl
     where
       led : (x : Bool) → ltb (a + t .budget) k ≡ x → if x (running (at (a + t .budget)) t) (finished (at k) t (k - a) d os) .tick .state ≡ at (min (a + t .budget) k)
       led true e = let l = ltb-true (a + t .budget) k e in ap at (omega (arith, l))
       led false e = let l = ltb-false (a + t .budget) k e in ap at (omega (arith, l))
 
-      go : (x : Bool) → ltb (length (t .out)) 1000 ≡ x → ticked p q (at (min a k)) t .tick .state ≡ at (min (a + if x 0 (t .budget)) k)
-      go true e = rw (add-zero a) (stays (min a k) t (ltb-true (length (t .out)) 1000 e))
+      go : (x : Bool) → ltb (length (t .out)) roomP ≡ x → ticked p q (at (min a k)) t .tick .state ≡ at (min (a + if x 0 (t .budget)) k)
+      go true e = rw (add-zero a) (stays (min a k) t (ltb-true (length (t .out)) roomP e))
       go false e =
-          ap (λ (r : Ticked). r .tick .state) (answers a t (ltb-false (length (t .out)) 1000 e)) ∙ led (ltb (a + t .budget) k) refl
+          ap (λ (r : Ticked). r .tick .state) (answers a t (ltb-false (length (t .out)) roomP e)) ∙ led (ltb (a + t .budget) k) refl
 
   turns-lead : (ts : List Turn) (a : ℕ) → afterTurns p q ts (at (min a k)) ≡ at (min (a + dealtOut ts) k)
   unfolding afterTurns dealtOut
   turns-lead [] a = rw (add-zero a) refl
   turns-lead (t ∷ ts) a = rw (turn-leads a t) (turns-lead ts (a + deals t) ∙ ap (λ (n : ℕ). at (min n k)) (add-assoc a (deals t) (dealtOut ts)))
 
-  pub gives : (ts : List Turn) (t : Turn) → 1000 ≤ length (t .out) → ticked p q (afterTurns p q ts freshOf) t ≡ answer (dealtOut ts) t
+  pub gives : (ts : List Turn) (t : Turn) → roomP ≤ length (t .out) → ticked p q (afterTurns p q ts freshOf) t ≡ answer (dealtOut ts) t
   unfolding afterSteps
   gives ts t room =
       let z : min 0 k ≡ 0 = omega arith in

@@ -28,6 +28,7 @@ use Rattle.code.proofs.Words.{Padded, padded, spelled}
 use Rattle.demand.specs.Records.{Numbers, OnlyRecords}
 use Rattle.demand.proofs.Course.{course, on-the-way}
 use Rattle.demand.proofs.Demand as demand
+use Rattle.layout.specs.Room.{roomP}
 
 abbrev Any : Test → Type 0
 Any t = Unit
@@ -50,7 +51,7 @@ number-of N (leave n) v o h = absurd o
 number-of N finish v o h = absurd o
 
 -- the entries of a book's programme hold only the numbers of its obligation records
-numbered : (b : List ℕ) → obligations Permits (bookOf b) ≤ 1000 → Padded Any (Numbers b) (translated (bookOf b))
+numbered : (b : List ℕ) → obligations Permits (bookOf b) ≤ roomP → Padded Any (Numbers b) (translated (bookOf b))
 unfolding translated
 numbered b fits =
     let x : Tree = bookOf b in

@@ -20,6 +20,7 @@ use Rattle.run.specs.Tick.{Ticked, tickOf}
 use Rattle.run.specs.declared.kinds.Answer.the-variants.{Running, Finished}
 use Rattle.promises.specs.Steps.{afterSteps}
 use Rattle.translator.specs.Translate.{programmeOf}
+use Rattle.layout.specs.Room.{roomP}
 
 -- it has at most 4n entries
 abbrev pub FewEntries : Type 0
@@ -40,7 +41,7 @@ afterTurns p q (t ∷ ts) s = afterTurns p q ts (ticked p q s t .tick .state)
 
 -- the steps that they deal out: a tick whose output has no room is refused, and deals out none
 abbrev pub deals : Turn → ℕ
-deals t = if (ltb (length (t .out)) 1000) 0 (t .budget)
+deals t = if (ltb (length (t .out)) roomP) 0 (t .budget)
 
 unfoldable pub dealtOut : List Turn → ℕ
 dealtOut [] = 0
@@ -68,7 +69,7 @@ pub record Runs (p q : List ℕ) (d : Decision) (os : List ℕ) : Type 0 where
   pub steps : ℕ
   pub begun : 0 < steps
   pub few : steps ≤ length p
-  pub gives : (ts : List Turn) (t : Turn) → 1000 ≤ length (t .out)
+  pub gives : (ts : List Turn) (t : Turn) → roomP ≤ length (t .out)
       → ticked p q (afterTurns p q ts freshOf) t ≡ answerAt p (bagsOf q) steps (dealtOut ts) t d os
 
 -- for every accepted book and every accepted request, with the decision and the obligations of the meaning

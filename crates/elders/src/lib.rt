@@ -7,7 +7,7 @@ ghost use Rattle.record.specs.Forest.{forest};
 ghost use Rattle.elders.specs.Links.{Linked, Kept};
 
 // A place for each record that a book can have.
-pub type Elders = [u16; 1000];
+pub type Elders = [u16; record::MOST_RECORDS];
 
 // A number of the table as a record's number, and back.
 fn wide(x: u16) -> usize

@@ -29,6 +29,7 @@ use Rattle.layout.specs.declared.Frame.{Frame}
 use Rattle.layout.specs.declared.Head.{Head}
 use Rattle.layout.specs.Layout.{bitOf, truthCode, truthBy, decisionCode, decisionBy, effectCode, effectBy, opCode, opBy, algorithmCode, algorithmBy, functionCode, rankBy, accCode, accBy, levelOf, levelWord, frameOf, frameWord, unpackOf, packOf, allowed}
 use Rattle.layout.specs.Ranges.{Held, Ranged}
+use Rattle.layout.specs.Room.{roomP}
 
 -- words
 pub truth-back : (t : Truth) → truthBy (truthCode t) ≡ t
@@ -334,8 +335,8 @@ unfolding allowed
 ranged n e =
     let d : Bool = leb (unpackOf n .depth) 16 in
     let c : Bool = leb (unpackOf n .nest) 14 in
-    let p : Bool = leb (unpackOf n .permits) 1000 in
-    let s : Bool = leb (unpackOf n .cut + unpackOf n .denies) 1000 in
+    let p : Bool = leb (unpackOf n .permits) roomP in
+    let s : Bool = leb (unpackOf n .cut + unpackOf n .denies) roomP in
     let f = both-right (ltb n 2305843009213693952) (both d (both c (both p s))) e in
     let g = both-right d (both c (both p s)) f in
     let h = both-right c (both p s) g in

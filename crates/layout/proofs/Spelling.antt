@@ -14,10 +14,11 @@ use Rattle.meaning.specs.declared.Effect.{Effect}
 use Rattle.layout.specs.Entry.{Entry, begin, match, further, opens, compare, close, rule, enter, applies, conclude, oblige, leave, finish, extra, reach, isFurther, fits}
 use Rattle.layout.specs.Layout.{bitOf, functionCode, effectCode, effectBy, opCode, algorithmCode, testOf, testWord, matchBy, compareBy, entryBy, entryOf, fetch, wordsOf}
 use Rattle.layout.proofs.Coding.{bit-back, bit-small, effect-back, effect-small, op-back, algorithm-back, algorithm-small, function-back, function-small, remainder, quotient, digit}
+use Rattle.layout.specs.Room.{roomP}
 
 -- an entry's test, number or cut has a property
 abbrev pub Holds : (Test → Type 0) → (ℕ → Type 0) → Entry → Type 0
-Holds T N (begin al c) = c ≤ 1000
+Holds T N (begin al c) = c ≤ roomP
 Holds T N (match t m c l i j x) = T t
 Holds T N further = Unit
 Holds T N (opens op) = Unit
@@ -39,7 +40,7 @@ abbrev pub Short : ℕ → Type 0
 Short n = n < 65536
 
 pub fits-held : (e : Entry) → isFurther e ≡ false → Holds Key Short e → fits e ≡ true
-fits-held (begin al c) h g = le-leb c 1000 g
+fits-held (begin al c) h g = le-leb c roomP g
 fits-held (match t m c s i j x) h g = refl
 fits-held further h g = sym h
 fits-held (opens op) h g = refl

@@ -7,6 +7,7 @@ use Rattle.meaning.specs.declared.Test.{Test}
 use Rattle.meaning.specs.declared.Effect.{Effect}
 use Rattle.meaning.specs.declared.Algorithm.{Algorithm}
 use Rattle.layout.specs.declared.Op.{Op}
+use Rattle.layout.specs.Room.{roomP}
 
 pub data Entry : Type 0 where
   -- the first entry: the book's policy or set is entered, and where the obligations on Deny begin
@@ -81,7 +82,7 @@ isFurther finish = false
 
 -- a cut is at most 1,000, an obligation's number below 65,536, and a further entry is no first one
 abbrev pub fits : Entry → Bool
-fits (begin al c) = leb c 1000
+fits (begin al c) = leb c roomP
 fits (match t m c l i j x) = true
 fits further = false
 fits (opens op) = true

@@ -27,6 +27,7 @@ use Rattle.layout.specs.declared.Level.{Level}
 use Rattle.layout.specs.declared.Frame.{Frame}
 use Rattle.layout.specs.declared.Head.{Head}
 use Rattle.layout.specs.Entry.{Entry, begin, match, further, opens, compare, close, rule, enter, applies, conclude, oblige, leave, finish}
+use Rattle.layout.specs.Room.{roomP}
 
 -- small words by number, and back; a number that no word has is read as the last one
 abbrev pub bitOf : Bool → ℕ
@@ -160,8 +161,8 @@ allowed n =
     both (ltb n 2305843009213693952)
     (both (leb (unpackOf n .depth) 16)
     (both (leb (unpackOf n .nest) 14)
-    (both (leb (unpackOf n .permits) 1000)
-    (leb (unpackOf n .cut + unpackOf n .denies) 1000))))
+    (both (leb (unpackOf n .permits) roomP)
+    (leb (unpackOf n .cut + unpackOf n .denies) roomP))))
 
 -- an entry by its number: 4 bits what it is, then its fields; a match and a comparison have their literal in the next number, a match the ways to
 -- the next section and out of the target in the one after

@@ -1,3 +1,4 @@
+pub mod Room
 pub mod Entry
 pub mod Layout
 pub mod Ranges

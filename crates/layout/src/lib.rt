@@ -46,11 +46,14 @@ pub struct Head {
     pub over: bool,
 }
 
+// A state has so many obligation places.
+pub const PLACES: usize = 1000;
+
 pub struct State {
     pub head: u64,
     pub frames: [u64; 17],
     pub levels: [u64; 15],
-    pub places: [u16; 1000],
+    pub places: [u16; PLACES],
 }
 
 pub fn bit(b: bool) -> u64

@@ -27,7 +27,8 @@ use Rattle.moves.specs.declared.Placing.{Placing}
 use Rattle.moves.specs.declared.Placing.the-variants.{Rest, AddPermit, AddDeny, FallPermit, FallDeny, FallBoth, Cut, Down}
 use Rattle.layout.specs.Entry.{Entry, begin, match, further, opens, compare, close, rule, enter, applies, conclude, oblige, leave, finish, extra, reach, fits, lawful}
 use Rattle.moves.specs.Core.{past, told, settledBy, targetDone, sectionDone, conjunctionDone, matchDone, tell, closed, concluded, noted, pushed, finished, core}
-use Rattle.stacks.specs.Machine.{roomF, roomL, permitsAfter, deniesAfter, cutAfter}
+use Rattle.layout.specs.Room.{roomF, roomL, roomP}
+use Rattle.stacks.specs.Machine.{permitsAfter, deniesAfter, cutAfter}
 use Rattle.layout.specs.Layout.{unpackOf, allowed, fetch}
 use Rattle.programme.specs.Step.{headAfter, after, seen, mayStep, stepOf}
 use Rattle.layout.specs.declared.State.{State}
@@ -115,7 +116,7 @@ inside finish g long h l m f b w = go (both (is (h .reg) Deny) (ltb (h .permits)
 pub placed-core : (e : Entry) (g : Bags) (h : Head) (l m : Level) (f b : Frame) → fits e ≡ true
     → Placed (core g h e l m f b .placing) (h .permits) (h .denies)
 unfolding core
-placed-core (begin al c) g h l m f b w = leb-true c 1000 w
+placed-core (begin al c) g h l m f b w = leb-true c roomP w
 placed-core (match t k c s i j x) g h l m f b w = tt
 placed-core further g h l m f b w = tt
 placed-core (opens op) g h l m f b w = tt
@@ -161,11 +162,11 @@ placed-core finish g h l m f b w = go (is (h .reg) Deny) (ltb (h .permits) (h .d
     go true false z = tt
     go false x z = tt
 
-permits-range : (h : Head) (z : Placing) → Placed z (h .permits) (h .denies) → Ranged h → permitsAfter z (h .cut) (h .permits) ≤ 1000
+permits-range : (h : Head) (z : Placing) → Placed z (h .permits) (h .denies) → Ranged h → permitsAfter z (h .cut) (h .permits) ≤ roomP
 permits-range h Rest w r = r .permits
 permits-range h (AddPermit n) w r = go (ltb (h .permits) (h .cut)) refl
   where
-    go : (b : Bool) → ltb (h .permits) (h .cut) ≡ b → if b (suc (h .permits)) (h .permits) ≤ 1000
+    go : (b : Bool) → ltb (h .permits) (h .cut) ≡ b → if b (suc (h .permits)) (h .permits) ≤ roomP
     go true e = let z = ltb-true (h .permits) (h .cut) e in omega (arith, z, r .stacks)
     go false e = r .permits
 permits-range h (AddDeny n) w r = r .permits
@@ -175,13 +176,13 @@ permits-range h (FallBoth k j) w r = omega (arith, r .permits)
 permits-range h (Cut c) w r = omega arith
 permits-range h (Down n) w r = omega (arith, w, r .stacks)
 
-stacks-range : (h : Head) (z : Placing) → Placed z (h .permits) (h .denies) → Ranged h → cutAfter z (h .cut) + deniesAfter z (h .cut) 1000 (h .denies) ≤ 1000
+stacks-range : (h : Head) (z : Placing) → Placed z (h .permits) (h .denies) → Ranged h → cutAfter z (h .cut) + deniesAfter z (h .cut) roomP (h .denies) ≤ roomP
 stacks-range h Rest w r = r .stacks
 stacks-range h (AddPermit n) w r = r .stacks
-stacks-range h (AddDeny n) w r = go (ltb (h .cut + h .denies) 1000) refl
+stacks-range h (AddDeny n) w r = go (ltb (h .cut + h .denies) roomP) refl
   where
-    go : (b : Bool) → ltb (h .cut + h .denies) 1000 ≡ b → h .cut + if b (suc (h .denies)) (h .denies) ≤ 1000
-    go true e = let z = ltb-true (h .cut + h .denies) 1000 e in omega (arith, z)
+    go : (b : Bool) → ltb (h .cut + h .denies) roomP ≡ b → h .cut + if b (suc (h .denies)) (h .denies) ≤ roomP
+    go true e = let z = ltb-true (h .cut + h .denies) roomP e in omega (arith, z)
     go false e = r .stacks
 stacks-range h (FallPermit k) w r = r .stacks
 stacks-range h (FallDeny k) w r = omega (arith, r .stacks)

@@ -6,7 +6,8 @@ use Rattle.meaning.specs.Meaning.{Bags}
 use Rattle.layout.specs.declared.Head.{Head}
 use Rattle.layout.specs.Entry.{Entry, extra, lawful}
 use Rattle.moves.specs.Core.{Out, core}
-use Rattle.stacks.specs.Machine.{roomF, roomL, heightAfter, stackAfter, placesAfter}
+use Rattle.layout.specs.Room.{roomF, roomL, roomP}
+use Rattle.stacks.specs.Machine.{heightAfter, stackAfter, placesAfter}
 use Rattle.layout.specs.Layout.{levelWord, frameWord, levelOf, frameOf, unpackOf, packOf, fetch}
 use mathlib.Core.List.{List}
 use lib.ListN.{length, getD, replicate}
@@ -72,5 +73,5 @@ freshOf = record {
   head = packOf (record { at = 0; depth = 0; nest = 0; permits = 0; denies = 0; cut = 0; reg = Permit; ands = True; ors = False; sections = True; over = false });
   frames = replicate roomF 0;
   levels = replicate roomL 0;
-  places = replicate 1000 0;
+  places = replicate roomP 0;
 }

@@ -74,7 +74,7 @@ fn begin_at(long: u64, h: Head, n: u64) -> Met
     let w = entered(n % 8, 0, 0);
     let first = cleared(0, Decision::Permit);
     let m = moving(first, Change::Keep, Change::Push(w), Placing::Cut(cut));
-    unless_outside(cut <= 1000, m, 0)
+    unless_outside(cut <= layout::PLACES as u64, m, 0)
 }
 
 // Matches and comparisons.

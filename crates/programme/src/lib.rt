@@ -2,6 +2,7 @@
 mod entries;
 
 use layout::Head;
+use layout::PLACES;
 use moves::Move;
 ghost use mathlib.Core.Path.{_≡_};
 ghost use Prim.Native.Nat.{_≤_};
@@ -31,7 +32,7 @@ pub fn step_in(
     h: Head,
     frames: &mut [u64; 17],
     levels: &mut [u64; 15],
-    places: &mut [u16; 1000],
+    places: &mut [u16; PLACES],
 ) -> Went
     requires { ⌜ (length (now programme) ≤ 8008) × Ranged h ⌝ }
     ensures { λ r. ⌜ (r .ok ≡ mayStep (now (programme .entry)) (stateOf (packOf h) (now (frames .entry)) (now (levels .entry)) (now (places .entry))))

@@ -27,7 +27,8 @@ use Rattle.moves.specs.declared.Placing.{Placing}
 use Rattle.moves.specs.declared.Placing.the-variants.{Rest, AddPermit, AddDeny, FallPermit, FallDeny, FallBoth, Cut, Down}
 use Rattle.layout.specs.Entry.{Entry, begin, match, further, opens, compare, close, rule, enter, applies, conclude, oblige, leave, finish}
 use Rattle.moves.specs.Core.{Changing, keep, push, swap, below, back, Out, tell, closed, concluded, noted, pushed, finished, core}
-use Rattle.stacks.specs.Machine.{roomF, roomL, stackAfter, copies, placesAfter}
+use Rattle.layout.specs.Room.{roomF, roomL, roomP}
+use Rattle.stacks.specs.Machine.{stackAfter, copies, placesAfter}
 use Rattle.layout.specs.Layout.{frameWord, levelWord, fetch}
 use Rattle.stacks.specs.Carry.{inWords}
 use Rattle.programme.specs.Step.{after, seen, mayStep, stepOf, isOver, freshOf}
@@ -120,7 +121,7 @@ copied (suc n) c m xs k l =
         rw (lt-leb (suc m) k (omega (arith, a))) (getD-set-other xs m k (getD xs (c + m) 0) 0 (eqb-false k m e))
 
 -- the obligation places
-module _ (s : State) (xs : List ℕ) (k : ℕ) (is : s .places ≡ xs) (long : length xs ≡ 1000) (there : k < 1000) where
+module _ (s : State) (xs : List ℕ) (k : ℕ) (is : s .places ≡ xs) (long : length xs ≡ roomP) (there : k < roomP) where
   pub in-places : (z : Placing) (h : Head) → getD (placesAfter z (h .cut) (h .permits) (h .denies) xs) k 0 ≡ given (inPlaces z h k) s (place k)
   in-places Rest h = rw is refl
   in-places (AddPermit n) h = go (ltb (h .permits) (h .cut))
@@ -376,11 +377,11 @@ there-or s t u v (level k) = go (ltb k roomL) refl
     go : (b : Bool) → ltb k roomL ≡ b → (k < roomL) ⊎ (getD (s .levels) k 0 ≡ getD (t .levels) k 0)
     go true e = inl (ltb-true k roomL e)
     go false e = inr (beyond (s .levels) (t .levels) roomL k (u .levels) (v .levels) (ltb-false k roomL e))
-there-or s t u v (place k) = go (ltb k 1000) refl
+there-or s t u v (place k) = go (ltb k roomP) refl
   where
-    go : (b : Bool) → ltb k 1000 ≡ b → (k < 1000) ⊎ (getD (s .places) k 0 ≡ getD (t .places) k 0)
-    go true e = inl (ltb-true k 1000 e)
-    go false e = inr (beyond (s .places) (t .places) 1000 k (u .places) (v .places) (ltb-false k 1000 e))
+    go : (b : Bool) → ltb k roomP ≡ b → (k < roomP) ⊎ (getD (s .places) k 0 ≡ getD (t .places) k 0)
+    go true e = inl (ltb-true k roomP e)
+    go false e = inr (beyond (s .places) (t .places) roomP k (u .places) (v .places) (ltb-false k roomP e))
 
 else-given : (w : Sight) (s : State) (x : Place) (a : Source) → Within w x a → (Touched w x → ⊥) → given a s x ≡ held s x
 else-given w s x stays v n = refl
@@ -410,6 +411,6 @@ module _ (p : List ℕ) (g : Bags) (s : State) (w : Sized s) (k : ℕ) where
 
   pub stood-or : Told (held (stepOf p g s) (place k))
   stood-or =
-      ⊎-elim (λ (l : k < 1000). rw (by-sight p g s w .2 (place k) l) (told (sourceOf (sightOf p g s) (place k)) (touches-no-more (sightOf p g s) (place k))))
+      ⊎-elim (λ (l : k < roomP). rw (by-sight p g s w .2 (place k) l) (told (sourceOf (sightOf p g s) (place k)) (touches-no-more (sightOf p g s) (place k))))
       (λ (e : held (stepOf p g s) (place k) ≡ held s (place k)). inl (record { place = k; same = e }))
       (there-or (stepOf p g s) s (stays-sized p g s w) w (place k))

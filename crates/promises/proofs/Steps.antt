@@ -21,6 +21,7 @@ use Rattle.promises.specs.Steps.{afterSteps, Goes, Ends, Left, StepsLeft
 use Rattle.promises.specs.Place.{place, Sized, held}
 use Rattle.promises.specs.Sight.{Obliges}
 use Rattle.promises.proofs.Sight.{stays-sized, fresh-sized, Stood, stood-or}
+use Rattle.layout.specs.Room.{roomP}
 
 module _ (p : List ℕ) (g : Bags) where
   -- a run is its number of single steps, and each could be taken
@@ -139,13 +140,13 @@ module _ (p : List ℕ) (g : Bags) where
 
 fresh-zero : (k : ℕ) → getD (freshOf .places) k 0 ≡ 0
 unfolding freshOf
-fresh-zero k = go (ltb k 1000) refl
+fresh-zero k = go (ltb k roomP) refl
   where
-    go : (b : Bool) → ltb k 1000 ≡ b → _≡_ {A = ℕ} (getD (replicate 1000 0) k 0) 0
-    go true e = getD-replicate 1000 k 0 0 (ltb-true k 1000 e)
+    go : (b : Bool) → ltb k roomP ≡ b → _≡_ {A = ℕ} (getD (replicate roomP 0) k 0) 0
+    go true e = getD-replicate roomP k 0 0 (ltb-true k roomP e)
     go false e =
-        let xs : List ℕ = replicate 1000 0 in
-        let l : length xs ≤ k = rw (length-replicate {A = ℕ} 1000 0) (ltb-false k 1000 e) in
+        let xs : List ℕ = replicate roomP 0 in
+        let l : length xs ≤ k = rw (length-replicate {A = ℕ} roomP 0) (ltb-false k roomP e) in
         List·getD-eq-default xs 0 l
 
 pub only-met : OnlyMet

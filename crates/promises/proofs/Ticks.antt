@@ -31,6 +31,7 @@ use Rattle.promises.specs.Steps.{Left, runWith}
 use Rattle.promises.specs.Ticks.{Sound, tickWith, TicksAre, NotRefused, TakesTheSmaller, answerBy, outBy, FirstNumberSays, RefusedStays, AnswersAgain, TicksStaySized}
 use Rattle.promises.proofs.Sight.{runs-stay-sized}
 use Rattle.promises.proofs.Steps.{steps-left, runs-are}
+use Rattle.layout.specs.Room.{roomP}
 
 -- a tick that nothing refuses at the start is its run
 module _ (p q : List ℕ) (s : State) (b : ℕ) (out : List ℕ) where
@@ -64,7 +65,7 @@ module _ (p q : List ℕ) (s : State) (b : ℕ) (out : List ℕ) where
       ran w true e n = (w, e)
       ran w false e n = absurd n
 
-      fit : (m : ℕ) → judgeRequestOf q ≡ judged.Accepted m → (short fits : Bool) → ltb (length out) 1000 ≡ short → admitted (length p) (s .head) ≡ fits
+      fit : (m : ℕ) → judgeRequestOf q ≡ judged.Accepted m → (short fits : Bool) → ltb (length out) roomP ≡ short → admitted (length p) (s .head) ≡ fits
           → Unless (if short (refused noRoom s out) (if fits (ranOf (run .ok) run s out) (refused badRun s out)))
       fit m j true fits e f n = absurd n
       fit m j false true e f n = ran (record { entries = m; request = j; room = ltb-false _ _ e; layout = f }) (run .ok) refl n
@@ -72,7 +73,7 @@ module _ (p q : List ℕ) (s : State) (b : ℕ) (out : List ℕ) where
 
       asked : (j : JudgedRequest) → judgeRequestOf q ≡ j → Unless (judgedTick p (bagsOf q) j s b out)
       asked (judged.Refused r) e n = absurd n
-      asked (judged.Accepted m) e n = fit m e (ltb (length out) 1000) (admitted (length p) (s .head)) refl refl n
+      asked (judged.Accepted m) e n = fit m e (ltb (length out) roomP) (admitted (length p) (s .head)) refl refl n
 
 abbrev steps-of : Ticked → ℕ
 steps-of t = t .tick .steps
@@ -157,7 +158,7 @@ module _ (p q : List ℕ) (s : State) (b : ℕ) (out : List ℕ) where
 
       asked : (j : JudgedRequest) → Stays (judgedTick p (bagsOf q) j s b out)
       asked (judged.Refused r) n = (refl, refl, refl)
-      asked (judged.Accepted m) n = fit (ltb (length out) 1000) (admitted (length p) (s .head)) n
+      asked (judged.Accepted m) n = fit (ltb (length out) roomP) (admitted (length p) (s .head)) n
 
 pub refused-stays : RefusedStays
 refused-stays p q s b out n = refused-stays-so p q s b out n
@@ -242,4 +243,4 @@ ticks-stay-sized p q s b out w = asked (judgeRequestOf q)
 
     asked : (j : JudgedRequest) → Sized (judgedTick p (bagsOf q) j s b out .tick .state)
     asked (judged.Refused x) = w
-    asked (judged.Accepted m) = fit (ltb (length out) 1000) (admitted (length p) (s .head))
+    asked (judged.Accepted m) = fit (ltb (length out) roomP) (admitted (length p) (s .head))

@@ -20,12 +20,13 @@ use Rattle.run.specs.declared.kinds.Answer.{Answer}
 use Rattle.run.specs.declared.kinds.Answer.the-variants.{Running, Finished, Refused}
 use Rattle.promises.specs.Place.{headOf, Sized}
 use Rattle.promises.specs.Steps.{afterSteps}
+use Rattle.layout.specs.Room.{roomP}
 
 -- nothing is refused before the first step: the request is one, the output has room, and the layout allows programme and state
 pub record Sound (p q : List ℕ) (s : State) (out : List ℕ) : Type 0 where
   pub entries : ℕ
   pub request : judgeRequestOf q ≡ judged.Accepted entries
-  pub room : 1000 ≤ length out
+  pub room : roomP ≤ length out
   pub layout : admitted (length p) (s .head) ≡ true
 
 -- a tick, where k steps are left: 8, exactly where the budget is larger and the state there is not a finished one; else the smaller of budget and k, taken
@@ -82,7 +83,7 @@ abbrev pub AnswersAgain : Type 0
 AnswersAgain =
     (p q : List ℕ) (s : State) (budget : ℕ) (out : List ℕ) (d : Decision) (count : ℕ) → tickOf p q s budget out .tick .answer ≡ Finished d count
     → (tickOf p q s budget out .out ≡ firstPlaces (tickOf p q s budget out .tick .state) ++ replicate (length out - count) 0)
-    × ((r : List ℕ) (m more : ℕ) (lent : List ℕ) → judgeRequestOf r ≡ judged.Accepted m → 1000 ≤ length lent
+    × ((r : List ℕ) (m more : ℕ) (lent : List ℕ) → judgeRequestOf r ≡ judged.Accepted m → roomP ≤ length lent
     → tickOf p r (tickOf p q s budget out .tick .state) more lent ≡ again (tickOf p q s budget out .tick .state) d count lent)
 
 -- a tick keeps how many numbers a state has

@@ -27,17 +27,19 @@ use Rattle.translator.specs.declared.Translated.{Translated}
 use Rattle.translator.specs.declared.Translated.the-variants as translated
 use Rattle.emission.proofs.Emit.{programme-short}
 use Rattle.rig.specs.Rig.{noState, stateIn}
+use Rattle.layout.specs.Room.{roomP}
+use Rattle.record.specs.Bytes.{mostRecords}
 
 -- lent numbers and places that hold a state that the layout allows are long enough
 none-allowed : allowed (noState .head) ≡ true → ⊥
 unfolding noState allowed
 none-allowed e = let z : _≡_ {A = ℕ} 0 1 = cc in omega arith
 
-pub long-enough : (ns ps : List ℕ) → allowed (stateIn ns ps .head) ≡ true → (33 ≤ length ns) × (1000 ≤ length ps)
+pub long-enough : (ns ps : List ℕ) → allowed (stateIn ns ps .head) ≡ true → (33 ≤ length ns) × (roomP ≤ length ps)
 unfolding stateIn
-long-enough ns ps = go (ltb (length ns) 33) (ltb (length ps) 1000) (stateOf (getD ns 0 0) (take 17 (drop 1 ns)) (take 15 (drop 18 ns)) (take 1000 ps)) refl refl
+long-enough ns ps = go (ltb (length ns) 33) (ltb (length ps) roomP) (stateOf (getD ns 0 0) (take 17 (drop 1 ns)) (take 15 (drop 18 ns)) (take roomP ps)) refl refl
   where
-    go : (x y : Bool) (t : State) → ltb (length ns) 33 ≡ x → ltb (length ps) 1000 ≡ y → allowed (if (either x y) noState t .head) ≡ true → (33 ≤ length ns) × (1000 ≤ length ps)
+    go : (x y : Bool) (t : State) → ltb (length ns) 33 ≡ x → ltb (length ps) roomP ≡ y → allowed (if (either x y) noState t .head) ≡ true → (33 ≤ length ns) × (roomP ≤ length ps)
     go true y t e f a = absurd (none-allowed a)
     go false true t e f a = absurd (none-allowed a)
     go false false t e f a = (ltb-false _ _ e, ltb-false _ _ f)
@@ -45,7 +47,7 @@ long-enough ns ps = go (ltb (length ns) 33) (ltb (length ps) 1000) (stateOf (get
 -- an answer to translating: an entry is at most three numbers
 abbrev pub SmallTranslated : Translated → Type 0
 SmallTranslated (translated.Entries n) = n ≤ 24024
-SmallTranslated (translated.Refused r) = r .line ≤ 1000
+SmallTranslated (translated.Refused r) = r .line ≤ mostRecords
 
 few-words : (e : Entry) → length (wordsOf e) ≤ 3
 unfolding wordsOf

@@ -22,6 +22,8 @@ use Rattle.translator.specs.declared.Translated.{Translated}
 use Rattle.translator.specs.declared.Translated.the-variants as translated
 use Rattle.rig.specs.Rig.{noState, stateIn, numbersOf, over, call, put, freshCall, runningNumber, finishedNumber, tickIn, tickCall, translatedNumber}
 use Rattle.rig.proofs.Bounds.{long-enough, translate-small}
+use Rattle.layout.specs.Room.{roomP}
+use Rattle.record.specs.Bytes.{mostRecords}
 
 -- a copy that has come to its end
 pub copied-all : (xs d out : List ℕ) (i : ℕ) → length xs ≡ length d → i ≡ length d → Filled d 0 xs i out → out ≡ xs
@@ -34,11 +36,11 @@ module _ (ns ps : List ℕ) where
   unfolding stateIn
   few-numbers few e = rw (lt-ltb _ _ few) e
 
-  pub few-places : {s : State} → 33 ≤ length ns → length ps < 1000 → s ≡ noState → s ≡ stateIn ns ps
+  pub few-places : {s : State} → 33 ≤ length ns → length ps < roomP → s ≡ noState → s ≡ stateIn ns ps
   unfolding stateIn
   few-places enough few e = rw (le-ltb _ _ enough, lt-ltb _ _ few) e
 
-  pub held : {fs ls hs : List ℕ} → 33 ≤ length ns → 1000 ≤ length ps → fs ≡ take 17 (drop 1 ns) → ls ≡ take 15 (drop 18 ns) → hs ≡ take 1000 ps ++ []
+  pub held : {fs ls hs : List ℕ} → 33 ≤ length ns → roomP ≤ length ps → fs ≡ take 17 (drop 1 ns) → ls ≡ take 15 (drop 18 ns) → hs ≡ take roomP ps ++ []
       → stateOf (getD ns 0 0) fs ls hs ≡ stateIn ns ps
   unfolding stateIn
   held numbers places f l h = rw (le-ltb _ _ numbers, le-ltb _ _ places, f, l, h, append-nil) refl
@@ -65,8 +67,8 @@ module _ (ns : List ℕ) (h : ℕ) (fs : List ℕ) (enough : 33 ≤ length ns) (
     pub put-length : length (putMid 18 15 (putMid 1 17 (set ns 0 h) ms) os) ≡ length ns
     put-length = ap length put-numbers ∙ omega (arith, length-append (h ∷ (fs ++ ls)) (drop (length (h ∷ (fs ++ ls))) ns), length-drop (length (h ∷ (fs ++ ls))) ns, length-append fs ls)
 
-pub put-places : (ps hs : List ℕ) {ms : List ℕ} → length hs ≡ 1000 → ms ≡ take 1000 hs ++ drop 1000 ps → ms ≡ over hs ps
-put-places ps hs long e = rw (e, long, take-all 1000 hs (omega arith)) refl
+pub put-places : (ps hs : List ℕ) {ms : List ℕ} → length hs ≡ roomP → ms ≡ take roomP hs ++ drop roomP ps → ms ≡ over hs ps
+put-places ps hs long e = rw (e, long, take-all roomP hs (omega arith)) refl
 
 -- the fresh state
 module _ (ns ps : List ℕ) where
@@ -75,11 +77,11 @@ module _ (ns ps : List ℕ) where
     unfolding freshCall
     fresh-few-numbers few = rw (lt-ltb _ _ few, number, why) refl
 
-    pub fresh-few-places : 33 ≤ length ns → length ps < 1000 → call x ns ps ≡ freshCall ns ps
+    pub fresh-few-places : 33 ≤ length ns → length ps < roomP → call x ns ps ≡ freshCall ns ps
     unfolding freshCall
     fresh-few-places enough few = rw (le-ltb _ _ enough, lt-ltb _ _ few, number, why) refl
 
-  pub fresh-put : {s : State} {ms rs : List ℕ} → 33 ≤ length ns → 1000 ≤ length ps → s ≡ freshOf → ms ≡ over (numbersOf s) ns → rs ≡ over (s .places) ps
+  pub fresh-put : {s : State} {ms rs : List ℕ} → 33 ≤ length ns → roomP ≤ length ps → s ≡ freshOf → ms ≡ over (numbersOf s) ns → rs ≡ over (s .places) ps
       → call 0 ms rs ≡ freshCall ns ps
   unfolding freshCall
   fresh-put numbers places e f g = rw (le-ltb _ _ numbers, le-ltb _ _ places, f, g) (ap (λ s. put 0 s ns ps) e)
@@ -93,13 +95,13 @@ module _ (p q ns ps : List ℕ) (b : ℕ) (out : List ℕ) {s : State} {t : Tick
   small : (t .steps ≤ 8008) × Small (stateIn ns ps) (t .answer)
   small = rw (rw held at ticked) (tick-small p q (stateIn ns ps) b out)
 
-  pub refused-line : {r : Refusal} → t .answer ≡ Refused r → r .line ≤ 1000
+  pub refused-line : {r : Refusal} → t .answer ≡ Refused r → r .line ≤ mostRecords
   refused-line e = rw e at (small .1)
 
-  pub running-fits : t .answer ≡ Running → (33 ≤ length ns) × (1000 ≤ length ps) × (t .steps ≤ 8008)
+  pub running-fits : t .answer ≡ Running → (33 ≤ length ns) × (roomP ≤ length ps) × (t .steps ≤ 8008)
   running-fits e = let w : Small (stateIn ns ps) Running = rw e at (small .1) in let l = long-enough ns ps w in (l .0, l .1, small .0)
 
-  pub finished-fits : {d : Decision} {n : ℕ} → t .answer ≡ Finished d n → (33 ≤ length ns) × (1000 ≤ length ps) × (n ≤ 1000) × (t .steps ≤ 8008)
+  pub finished-fits : {d : Decision} {n : ℕ} → t .answer ≡ Finished d n → (33 ≤ length ns) × (roomP ≤ length ps) × (n ≤ roomP) × (t .steps ≤ 8008)
   finished-fits {d} {n} e = let w : Small (stateIn ns ps) (Finished d n) = rw e at (small .1) in let l = long-enough ns ps (w .0) in (l .0, l .1, w .1, small .0)
 
   module _ {o : List ℕ} (left : o ≡ tickOf p q s b out .out) where
@@ -128,7 +130,7 @@ module _ (b out : List ℕ) {y : Translated} (answer : y ≡ translateOf b (leng
   pub entries-few : {n : ℕ} → y ≡ translated.Entries n → n ≤ 24024
   entries-few e = rw (sym answer ∙ e) at (translate-small b (length out))
 
-  pub refused-translating : {r : Refusal} → y ≡ translated.Refused r → r .line ≤ 1000
+  pub refused-translating : {r : Refusal} → y ≡ translated.Refused r → r .line ≤ mostRecords
   refused-translating e = rw (sym answer ∙ e) at (translate-small b (length out))
 
   pub translates : {x : ℕ} {o : List ℕ} → x ≡ translatedNumber y → o ≡ leaves y b out

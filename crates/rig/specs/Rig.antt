@@ -17,6 +17,7 @@ use Rattle.run.specs.declared.kinds.Answer.the-variants.{Running, Finished, Ref
 use Rattle.run.specs.declared.kinds.Tick.{Tick}
 use Rattle.translator.specs.declared.Translated.{Translated}
 use Rattle.translator.specs.declared.Translated.the-variants as translated
+use Rattle.layout.specs.Room.{roomP}
 
 -- the numbers of a state: the first number, 17 frames, 15 levels
 abbrev pub numbersOf : State → List ℕ
@@ -24,17 +25,17 @@ numbersOf s = s .head ∷ (s .frames ++ s .levels)
 
 -- a state takes 33 numbers and 1,000 places
 abbrev pub tooShort : List ℕ → List ℕ → Bool
-tooShort numbers places = either (ltb (length numbers) 33) (ltb (length places) 1000)
+tooShort numbers places = either (ltb (length numbers) 33) (ltb (length places) roomP)
 
 -- a state that no layout allows: its first number is too large
 unfoldable pub noState : State
-noState = stateOf 18446744073709551615 (replicate 17 0) (replicate 15 0) (replicate 1000 0)
+noState = stateOf 18446744073709551615 (replicate 17 0) (replicate 15 0) (replicate roomP 0)
 
 -- the state that lent numbers and places hold; where they are too short for one, none that the layout allows
 unfoldable pub stateIn : List ℕ → List ℕ → State
 stateIn numbers places =
     if (tooShort numbers places) noState
-    (stateOf (getD numbers 0 0) (take 17 (drop 1 numbers)) (take 15 (drop 18 numbers)) (take 1000 places))
+    (stateOf (getD numbers 0 0) (take 17 (drop 1 numbers)) (take 15 (drop 18 numbers)) (take roomP places))
 
 -- a lent buffer after xs were put into its first places
 abbrev pub over : List ℕ → List ℕ → List ℕ

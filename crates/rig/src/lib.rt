@@ -1,4 +1,5 @@
 // The calls of the rig's loop. They take apart what is lent, call the functions of other crates, and put together what those give.
+use layout::PLACES;
 use layout::State;
 use meaning::Decision;
 use run::kinds::Answer;
@@ -9,11 +10,10 @@ ghost use Prim.Native.Nat.{_≤_};
 ghost use lib.ListN.{length};
 ghost use Rattle.translator.specs.Translate.{translateOf, leaves};
 ghost use Rattle.rig.specs.Rig.{noState, stateIn, numbersOf, over, call, freshCall, runningNumber, finishedNumber, tickIn, tickCall, translatedNumber};
+ghost use Rattle.layout.specs.Room.{roomP};
 
 // What a state takes: the first number, 17 frames and 15 levels; and its places.
 const NUMBERS: usize = 33;
-
-const PLACES: usize = 1000;
 
 // Copies numbers from one slice to another as long.
 fn copy_numbers(from: &[u64], to: &mut [u64])
@@ -35,7 +35,7 @@ fn no_state() -> State
         head: 18446744073709551615,
         frames: [0; 17],
         levels: [0; 15],
-        places: [0; 1000],
+        places: [0; PLACES],
     }
 }
 
@@ -51,7 +51,7 @@ fn state_in(numbers: &[u64], places: &[u16]) -> State
     }
     let mut frames: [u64; 17] = [0; 17];
     let mut levels: [u64; 15] = [0; 15];
-    let mut held: [u16; 1000] = [0; 1000];
+    let mut held: [u16; PLACES] = [0; PLACES];
     copy_numbers(&numbers[1..18], &mut frames);
     copy_numbers(&numbers[18..33], &mut levels);
     lent::copy(places, PLACES, &mut held);
@@ -74,8 +74,8 @@ fn put_numbers(head: u64, frames: &[u64; 17], levels: &[u64; 15], numbers: &mut 
 }
 
 // Puts the places of a state into the first of lent places.
-fn put_places(held: &[u16; 1000], places: &mut [u16])
-    requires { ⌜ 1000 ≤ length (now places) ⌝ }
+fn put_places(held: &[u16; PLACES], places: &mut [u16])
+    requires { ⌜ roomP ≤ length (now places) ⌝ }
     ensures { λ _. ⌜ now (places .exit) ≡ over (now (held .entry)) (now (places .entry)) ⌝ }
 {
     lent::copy(held, PLACES, places);
@@ -83,7 +83,7 @@ fn put_places(held: &[u16; 1000], places: &mut [u16])
 
 // Puts a state into the first of lent numbers and places.
 fn put_state(state: State, numbers: &mut [u64], places: &mut [u16])
-    requires { ⌜ (33 ≤ length (now numbers)) × (1000 ≤ length (now places)) ⌝ }
+    requires { ⌜ (33 ≤ length (now numbers)) × (roomP ≤ length (now places)) ⌝ }
     ensures { λ _. ⌜ (now (numbers .exit) ≡ over (numbersOf state) (now (numbers .entry))) × (now (places .exit) ≡ over (state .places) (now (places .entry))) ⌝ }
 {
     let frames = state.frames;
@@ -129,7 +129,7 @@ fn running(steps: u64) -> u64
 }
 
 fn finished(decision: Decision, count: u64, steps: u64) -> u64
-    requires { ⌜ (count ≤ 1000) × (steps ≤ 8008) ⌝ }
+    requires { ⌜ (count ≤ roomP) × (steps ≤ 8008) ⌝ }
     ensures { λ r. ⌜ r ≡ finishedNumber decision count steps ⌝ }
 {
     meaning::number(decision) as u64 + 256 * count + 4294967296 * steps

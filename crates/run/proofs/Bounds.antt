@@ -24,12 +24,14 @@ use Rattle.run.specs.declared.kinds.Answer.the-variants.{Running, Finish
 use Rattle.run.specs.declared.kinds.Tick.{Tick}
 use Rattle.run.proofs.Laws.{admit-parts, count-small}
 use Rattle.run.proofs.Runs.{no-more-than-entries}
+use Rattle.layout.specs.Room.{roomP}
+use Rattle.record.specs.Bytes.{mostRecords}
 
 -- an answer to a tick from s: only a state that the layout allows is run
 abbrev pub Small : State → Answer → Type 0
 Small s Running = allowed (s .head) ≡ true
-Small s (Finished d count) = (allowed (s .head) ≡ true) × (count ≤ 1000)
-Small s (Refused r) = r .line ≤ 1000
+Small s (Finished d count) = (allowed (s .head) ≡ true) × (count ≤ roomP)
+Small s (Refused r) = r .line ≤ mostRecords
 
 module _ (p : List ℕ) (g : Bags) (s : State) (b : ℕ) (out : List ℕ) where
   abbrev SmallTick : Ticked → Type 0
@@ -63,7 +65,7 @@ tick-small p q s b out = go (judgeRequestOf q) refl
   where
     go : (j : JudgedRequest) → judgeRequestOf q ≡ j → SmallTick p (bagsOf q) s b out (judgedTick p (bagsOf q) j s b out)
     go (judged.Refused r) e = let w = refused-request-small q r e in (omega arith, omega (arith, w .line))
-    go (judged.Accepted n) e = admitted-or-not p (bagsOf q) s b out (ltb (length out) 1000) (admitted (length p) (s .head)) refl
+    go (judged.Accepted n) e = admitted-or-not p (bagsOf q) s b out (ltb (length out) roomP) (admitted (length p) (s .head)) refl
 
 pub few-steps : (p q : List ℕ) (s : State) (b : ℕ) (out : List ℕ) {t : Tick} → t ≡ tickOf p q s b out .tick → t .steps ≤ 8008
 few-steps p q s b out e = rw e (tick-small p q s b out .0)

@@ -34,6 +34,7 @@ use Rattle.run.specs.declared.kinds.Tick.{Tick}
 use Rattle.run.specs.Run.{goOn, runOf, numberAfter}
 use Rattle.run.specs.Tick.{admitted, countOf, firstPlaces, answered, ranOf, tickOf}
 use Rattle.run.proofs.Runs.{runs-stay-allowed}
+use Rattle.layout.specs.Room.{roomP}
 
 -- a run, after k of its steps
 abbrev pub later : ℕ → Ran → Ran
@@ -140,7 +141,7 @@ module _ (n head : ℕ) where
     admit-high e = rw (lt-ltb _ _ z, le-leb _ _ l, le-ltb _ _ e) refl
 
     module _ (s : head < 2305843009213693952) (h : Head) (u : h ≡ unpackOf head) where
-      pub admit-by : both (leb (h .depth) 16) (both (leb (h .nest) 14) (both (leb (h .permits) 1000) (leb (h .cut + h .denies) 1000))) ≡ admitted n head
+      pub admit-by : both (leb (h .depth) 16) (both (leb (h .nest) 14) (both (leb (h .permits) roomP) (leb (h .cut + h .denies) roomP))) ≡ admitted n head
       unfolding admitted allowed
       admit-by = rw (lt-ltb _ _ z, le-leb _ _ l, lt-ltb _ _ s, u) refl
 
@@ -184,11 +185,11 @@ module _ (p q : List ℕ) (s : State) (b : ℕ) (out : List ℕ) where
     tick-request why t e f = (rw (f, ← a, e) refl, rw (← a, e) refl)
 
     module _ (n : ℕ) (e : j ≡ judged.Accepted n) where
-      pub tick-short : (why : Refusal) (t : Tick) → length out < 1000 → why ≡ noRoom → t ≡ refusal why s → TickIs t out
+      pub tick-short : (why : Refusal) (t : Tick) → length out < roomP → why ≡ noRoom → t ≡ refusal why s → TickIs t out
       unfolding tickOf
       tick-short why t l w f = (rw (f, w, ← a, e, lt-ltb _ _ l) refl, rw (← a, e, lt-ltb _ _ l) refl)
 
-      module _ (long : 1000 ≤ length out) (k : Bool) (m : k ≡ admitted (length p) (s .head)) where
+      module _ (long : roomP ≤ length out) (k : Bool) (m : k ≡ admitted (length p) (s .head)) where
         pub tick-refused : (why : Refusal) (t : Tick) → k ≡ false → why ≡ badRun → t ≡ refusal why s → TickIs t out
         unfolding tickOf
         tick-refused why t z w f = (rw (f, w, ← a, e, le-ltb _ _ long, ← m, z) refl, rw (← a, e, le-ltb _ _ long, ← m, z) refl)
@@ -218,13 +219,13 @@ module _ (p q : List ℕ) (s : State) (b : ℕ) (out : List ℕ) where
 
 -- a run's end is a state that the layout allows, so its obligations are at most 1,000
 pub count-small : (p : List ℕ) (g : Bags) (b : ℕ) (s : State) (k : Bool) (r : Ran) (h : Head) (x : ℕ) → k ≡ admitted (length p) (s .head) → k ≡ true
-    → r ≡ runOf p g b s → h ≡ unpackOf (r .state .head) → x ≡ countBy (h .reg) h → x ≤ 1000
+    → r ≡ runOf p g b s → h ≡ unpackOf (r .state .head) → x ≡ countBy (h .reg) h → x ≤ roomP
 count-small p g b s k r h x m z ran u c =
     let w = admit-parts (length p) (s .head) k m z in
     let d : allowed (r .state .head) ≡ true = rw ran (runs-stay-allowed p g b s (w .0) (w .1)) in
     rw c (go (h .reg) (rw u (ranged (r .state .head) d)))
   where
-    go : (y : Decision) → Ranged h → countBy y h ≤ 1000
+    go : (y : Decision) → Ranged h → countBy y h ≤ roomP
     go Permit l = l .permits
     go Deny l = let i = l .stacks in omega arith
     go NotApplicable l = omega arith

@@ -19,6 +19,7 @@ use Rattle.run.specs.declared.kinds.Answer.the-variants.{Running, Finish
 use Rattle.run.specs.declared.kinds.Ran.{Ran}
 use Rattle.run.specs.Run.{runOf}
 use Rattle.run.specs.declared.kinds.Tick.{Tick}
+use Rattle.layout.specs.Room.{roomP}
 
 -- the programme has an entry and not over 8,008, and the state is one that its layout allows
 unfoldable pub admitted : ℕ → ℕ → Bool
@@ -55,7 +56,7 @@ ranOf false r s out = refused badRun s out
 abbrev pub judgedTick : List ℕ → Bags → JudgedRequest → State → ℕ → List ℕ → Ticked
 judgedTick p g (judged.Refused r) s budget out = refused r s out
 judgedTick p g (judged.Accepted n) s budget out =
-    if (ltb (length out) 1000) (refused noRoom s out)
+    if (ltb (length out) roomP) (refused noRoom s out)
     (if (admitted (length p) (s .head)) (ranOf (runOf p g budget s .ok) (runOf p g budget s) s out)
     (refused badRun s out))
 

@@ -33,6 +33,7 @@ use kinds::Answer;
 use kinds::Ran;
 use kinds::Tick;
 use layout::Head;
+use layout::PLACES;
 use layout::State;
 use meaning::Decision;
 use record::Refusal;
@@ -49,12 +50,10 @@ ghost use Rattle.programme.specs.Step.{countBy, freshOf, stateOf};
 ghost use Rattle.run.specs.Run.{runOf, numberAfter};
 ghost use Rattle.run.specs.Tick.{admitted, tickOf};
 ghost use Rattle.run.specs.declared.kinds.Answer.the-variants.{Running, Finished, Refused};
+ghost use Rattle.layout.specs.Room.{roomP};
 
 // The most entries of a programme.
 const MOST: usize = 8008;
-
-// The places that a tick needs in its output.
-const PLACES: usize = 1000;
 
 // The state before the first step: all is zero, but a section without a conjunction is False (2^56).
 pub fn fresh() -> State
@@ -64,7 +63,7 @@ pub fn fresh() -> State
         head: 72057594037927936,
         frames: [0; 17],
         levels: [0; 15],
-        places: [0; 1000],
+        places: [0; PLACES],
     }
 }
 
@@ -94,7 +93,7 @@ fn run_in(
     budget: u64,
     frames: &mut [u64; 17],
     levels: &mut [u64; 15],
-    places: &mut [u16; 1000],
+    places: &mut [u16; PLACES],
 ) -> Ended
     requires { ⌜ (length (now programme) ≤ 8008) × (allowed start ≡ true) ⌝ }
     ensures { λ r. ⌜ runOf (now (programme .entry)) (bagsOf (now (request .entry))) budget (stateOf start (now (frames .entry)) (now (levels .entry)) (now (places .entry)))
@@ -178,10 +177,10 @@ fn admits(long: usize, head: u64) -> bool
     if 14 < h.nest {
         return false;
     }
-    if 1000 < h.permits {
+    if (PLACES as u64) < h.permits {
         return false;
     }
-    h.cut + h.denies <= 1000
+    h.cut + h.denies <= PLACES as u64
 }
 
 // How many obligations a finished run has.
@@ -209,8 +208,8 @@ fn answer(h: Head) -> Answer
 }
 
 // The obligations first, and zero in every other place.
-fn fill(places: &[u16; 1000], count: u64, out: &mut [u16])
-    requires { ⌜ (count ≤ 1000) × (1000 ≤ length (now out)) ⌝ }
+fn fill(places: &[u16; PLACES], count: u64, out: &mut [u16])
+    requires { ⌜ (count ≤ roomP) × (roomP ≤ length (now out)) ⌝ }
     ensures { λ r. ⌜ now (out .exit) ≡ take count (now (places .entry)) ++ replicate (length (now (out .entry)) - count) 0 ⌝ }
 {
     let n = count as usize;

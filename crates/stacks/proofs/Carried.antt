@@ -17,6 +17,7 @@ use Rattle.stacks.specs.declared.Heights.{Heights}
 use Rattle.stacks.specs.Machine.{heightAfter, stackAfter, cutAfter, permitsAfter, deniesAfter, copies, placesAfter}
 use Rattle.layout.specs.Ranges.{Ranged}
 use Rattle.stacks.specs.Carry.{Placed, headWith, changingOf}
+use Rattle.layout.specs.Room.{roomP}
 
 -- a stack of so many places, with its top at k, gets the change c
 module _ (room k : ℕ) (xs : List ℕ) {c : Change} {x : ℕ} where
@@ -64,7 +65,7 @@ abbrev stands : ℕ → ℕ → ℕ → Heights
 stands permits denies cut = record { permits = permits; denies = denies; cut = cut }
 
 abbrev After : Placing → ℕ → ℕ → ℕ → List ℕ → Heights → List ℕ → Type 0
-After z c p d xs r ys = (r ≡ stands (permitsAfter z c p) (deniesAfter z c 1000 d) (cutAfter z c)) × (ys ≡ placesAfter z c p d xs)
+After z c p d xs r ys = (r ≡ stands (permitsAfter z c p) (deniesAfter z c roomP d) (cutAfter z c)) × (ys ≡ placesAfter z c p d xs)
 
 module _ (c p d : ℕ) (xs : List ℕ) {z : Placing} where
   pub place-rest : {r : Heights} → z ≡ Rest → r ≡ stands p d c → After z c p d xs r xs
@@ -76,11 +77,11 @@ module _ (c p d : ℕ) (xs : List ℕ) {z : Placing} where
   pub permit-added : {r : Heights} {n : ℕ} → z ≡ AddPermit n → p < c → r ≡ stands (p + 1) d c → After z c p d xs r (set xs p n)
   permit-added e a f = rw (e, f, lt-ltb p c a, add-one p) (refl, refl)
 
-  pub deny-full : {r : Heights} {n : ℕ} → length xs ≡ 1000 → z ≡ AddDeny n → 1000 ≤ c + d → r ≡ stands p d c → After z c p d xs r xs
-  deny-full l e a f = rw (e, f, l, le-ltb (c + d) 1000 a) (refl, refl)
+  pub deny-full : {r : Heights} {n : ℕ} → length xs ≡ roomP → z ≡ AddDeny n → roomP ≤ c + d → r ≡ stands p d c → After z c p d xs r xs
+  deny-full l e a f = rw (e, f, l, le-ltb (c + d) roomP a) (refl, refl)
 
-  pub deny-added : {r : Heights} {n : ℕ} → length xs ≡ 1000 → z ≡ AddDeny n → c + d < 1000 → r ≡ stands p (d + 1) c → After z c p d xs r (set xs (c + d) n)
-  deny-added l e a f = rw (e, f, l, lt-ltb (c + d) 1000 a, add-one d) (refl, refl)
+  pub deny-added : {r : Heights} {n : ℕ} → length xs ≡ roomP → z ≡ AddDeny n → c + d < roomP → r ≡ stands p (d + 1) c → After z c p d xs r (set xs (c + d) n)
+  deny-added l e a f = rw (e, f, l, lt-ltb (c + d) roomP a, add-one d) (refl, refl)
 
   pub permit-fell : {r : Heights} {h q : ℕ} → z ≡ FallPermit h → q ≡ min h p → r ≡ stands q d c → After z c p d xs r xs
   permit-fell e a f = rw (e, f, a) (refl, refl)
@@ -118,7 +119,7 @@ module _ (h : Head) (further : ℕ) (m : Move) where
       (a : depth ≡ heightAfter frames (changingOf (m .frames)) (h .depth)) (b : nest ≡ heightAfter levels (changingOf (m .levels)) (h .nest))
       (c : s ≡ record {
         permits = permitsAfter (m .placing) (h .cut) (h .permits);
-        denies = deniesAfter (m .placing) (h .cut) 1000 (h .denies);
+        denies = deniesAfter (m .placing) (h .cut) roomP (h .denies);
         cut = cutAfter (m .placing) (h .cut);
       }) where
     abbrev made : Head

@@ -8,7 +8,8 @@ use Rattle.moves.specs.declared.Next.{Next}
 use Rattle.moves.specs.declared.Placing.{Placing}
 use Rattle.moves.specs.declared.Placing.the-variants.{Rest, AddPermit, AddDeny, FallPermit, FallDeny, FallBoth, Cut, Down}
 use Rattle.moves.specs.Core.{Changing, keep, push, swap, below, back}
-use Rattle.stacks.specs.Machine.{roomF, roomL, heightAfter, cutAfter, permitsAfter, deniesAfter}
+use Rattle.layout.specs.Room.{roomF, roomL, roomP}
+use Rattle.stacks.specs.Machine.{heightAfter, cutAfter, permitsAfter, deniesAfter}
 use Rattle.moves.specs.declared.Change.the-variants.{Keep, Push, Swap, Under, Back}
 use Rattle.moves.specs.Moves.{changeOf}
 
@@ -30,7 +31,7 @@ headTo h further depth nest n over z = record {
   depth = depth;
   nest = nest;
   permits = permitsAfter z (h .cut) (h .permits);
-  denies = deniesAfter z (h .cut) 1000 (h .denies);
+  denies = deniesAfter z (h .cut) roomP (h .denies);
   cut = cutAfter z (h .cut);
   reg = n .reg;
   ands = n .ands;
@@ -48,7 +49,7 @@ Placed (AddDeny n) p d = n < 65536
 Placed (FallPermit h) p d = Unit
 Placed (FallDeny h) p d = Unit
 Placed (FallBoth h k) p d = Unit
-Placed (Cut n) p d = n ≤ 1000
+Placed (Cut n) p d = n ≤ roomP
 Placed (Down n) p d = p + n ≤ d
 
 -- the first number after a move past so many further entries

@@ -8,13 +8,6 @@ use Rattle.moves.specs.declared.Placing.{Placing}
 use Rattle.moves.specs.declared.Placing.the-variants.{Rest, AddPermit, AddDeny, FallPermit, FallDeny, FallBoth, Cut, Down}
 use Rattle.moves.specs.Core.{Changing, keep, push, swap, below, back}
 
--- frames: one at the bottom, and sixteen; levels: one at the bottom, and fourteen
-abbrev pub roomF : ℕ
-roomF = 17
-
-abbrev pub roomL : ℕ
-roomL = 15
-
 -- the place of the top of a stack with `room` places; there is always a bottom, and a stack that is full takes no more
 abbrev pub heightAfter : {A : Type 0} → ℕ → Changing A → ℕ → ℕ
 heightAfter room keep k = k

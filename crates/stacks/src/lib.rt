@@ -1,5 +1,6 @@
 // How a step is carried out, on the stacks and on the row of obligation places.
 use layout::Head;
+use layout::PLACES;
 use moves::Change;
 use moves::Move;
 use moves::Placing;
@@ -9,6 +10,7 @@ ghost use lib.ListN.{length};
 ghost use Rattle.stacks.specs.Machine.{heightAfter, stackAfter, cutAfter, permitsAfter, deniesAfter, copies, placesAfter};
 ghost use Rattle.layout.specs.Ranges.{Ranged};
 ghost use Rattle.stacks.specs.Carry.{Placed, headWith, changingOf};
+ghost use Rattle.layout.specs.Room.{roomP, roomF, roomL};
 
 // The place below, the bottom's own.
 pub fn lower(k: usize) -> usize
@@ -86,8 +88,8 @@ fn bring_down(places: &mut [u16], n: u64, cut: u64, to: u64)
 
 // Writes the obligation places that a step writes; returns the heights and the cut after it.
 fn place(places: &mut [u16], z: Placing, cut: u64, permits: u64, denies: u64) -> Heights
-    requires { ⌜ (length (now places) ≡ 1000) × (permits ≤ 1000) × (cut + denies ≤ 1000) × Placed z permits denies ⌝ }
-    ensures { λ r. ⌜ (r ≡ record { permits = permitsAfter z cut permits; denies = deniesAfter z cut 1000 denies; cut = cutAfter z cut })
+    requires { ⌜ (length (now places) ≡ roomP) × (permits ≤ roomP) × (cut + denies ≤ roomP) × Placed z permits denies ⌝ }
+    ensures { λ r. ⌜ (r ≡ record { permits = permitsAfter z cut permits; denies = deniesAfter z cut roomP denies; cut = cutAfter z cut })
         × (now (places .exit) ≡ placesAfter z cut permits denies (now (places .entry))) ⌝ }
 {
     match z {
@@ -136,12 +138,12 @@ pub fn carry_out(
     further: u64,
     frames: &mut [u64; 17],
     levels: &mut [u64; 15],
-    places: &mut [u16; 1000],
+    places: &mut [u16; PLACES],
 ) -> Head
     requires { ⌜ Ranged h × Ranged (headWith h further m) × Placed (m .placing) (h .permits) (h .denies) ⌝ }
     ensures { λ r. ⌜ (r ≡ headWith h further m)
-        × (now (frames .exit) ≡ stackAfter 17 (changingOf (m .frames)) (h .depth) (now (frames .entry)))
-        × (now (levels .exit) ≡ stackAfter 15 (changingOf (m .levels)) (h .nest) (now (levels .entry)))
+        × (now (frames .exit) ≡ stackAfter roomF (changingOf (m .frames)) (h .depth) (now (frames .entry)))
+        × (now (levels .exit) ≡ stackAfter roomL (changingOf (m .levels)) (h .nest) (now (levels .entry)))
         × (now (places .exit) ≡ placesAfter (m .placing) (h .cut) (h .permits) (h .denies) (now (places .entry))) ⌝ }
 {
     let next = m.next;

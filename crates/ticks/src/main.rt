@@ -82,7 +82,7 @@ struct After {
 fn turn(programme: &[u64], request: &[u8], state: State, budget: u64) -> After
     ensures { λ r. ⌜ r ≡ afterOf (now (programme .entry)) (now (request .entry)) state budget ⌝ }
 {
-    let mut places = [0u16; 1000];
+    let mut places = [0u16; layout::PLACES];
     let ticked = run::tick(programme, request, state, budget, &mut places);
     let answer = ticked.answer;
     show(ticked.steps, answer, &places);

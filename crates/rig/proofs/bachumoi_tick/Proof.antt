@@ -4,6 +4,7 @@ use borrow.Author.Needs.{needs}
 use Rattle.rig.proofs.Laws.{refused-line, running-fits, finished-fits, tick-refused, tick-running, tick-finished}
 use Rattle.rig.proofs.bachumoi_tick.Statement.{statement}
 use Rattle.rig.proofs.bachumoi_tick.Tie as tie
+use Rattle.layout.specs.Room.{roomP}
 
 abbrev entered : tie.After-state-in → tie.Start
 entered held = held .before .before .before .before .before .before .before .before
@@ -20,7 +21,7 @@ running-small : (c : tie.After-enum-told) →
     let ticked = c .before .before .before .before .before in
     let held = ticked .before .before in
     let a = entered held .args in
-    (33 ≤ length (a .numbers .now)) × (1000 ≤ length (a .places .now)) × (ticked .tick .result .steps ≤ 8008)
+    (33 ≤ length (a .numbers .now)) × (roomP ≤ length (a .places .now)) × (ticked .tick .result .steps ≤ 8008)
 running-small c =
     let ticked = c .before .before .before .before .before in
     let held = ticked .before .before in
@@ -31,7 +32,7 @@ finished-small : (c : tie.After-answer2) →
     let ticked = c .before .before .before .before .before in
     let held = ticked .before .before in
     let a = entered held .args in
-    (33 ≤ length (a .numbers .now)) × (1000 ≤ length (a .places .now)) × (c .answer2 .given .0 .1 .0 ≤ 1000) × (ticked .tick .result .steps ≤ 8008)
+    (33 ≤ length (a .numbers .now)) × (roomP ≤ length (a .places .now)) × (c .answer2 .given .0 .1 .0 ≤ roomP) × (ticked .tick .result .steps ≤ 8008)
 finished-small c =
     let ticked = c .before .before .before .before .before in
     let held = ticked .before .before in

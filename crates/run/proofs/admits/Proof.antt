@@ -9,6 +9,7 @@ use Rattle.run.specs.Tick.{admitted}
 use Rattle.run.proofs.Laws.{stacks-small, admit-none, admit-long, admit-high, admit-by}
 use Rattle.run.proofs.admits.Statement.{statement}
 use Rattle.run.proofs.admits.Tie as tie
+use Rattle.layout.specs.Room.{roomP}
 
 returns : tie.Need-returns
 returns c = admit-none _ _ (c .if1 .taken)
@@ -23,7 +24,7 @@ returns-3 c = admit-high _ _ (omega arith) (c .before .if2 .left) (c .if3 .taken
 tests-left : (c : tie.After-unpack) →
     let h = c .unpack .result in
     let a = c .before .before .before .before .args in
-    both (leb (h .depth) 16) (both (leb (h .nest) 14) (both (leb (h .permits) 1000) (leb (h .cut + h .denies) 1000))) ≡ admitted (a .long) (a .head)
+    both (leb (h .depth) 16) (both (leb (h .nest) 14) (both (leb (h .permits) roomP) (leb (h .cut + h .denies) roomP))) ≡ admitted (a .long) (a .head)
 tests-left c = admit-by _ _ (omega arith) (c .before .before .if2 .left) (c .before .if3 .left) _ (c .unpack .ensures)
 
 returns-4 : tie.Need-returns-4
