@@ -176,7 +176,7 @@ module _ (b : List ℕ) {p i e d pn gc pc er : ℕ} (w : Walk b p i e d pn gc pc
   unfolding placeOk
   stop-here n =
       let x = rule-is b w l ek ec (sym (span-end b i s es)) et eu in
-      record { place = sym (first-here (placeOk b) i (e - i) (omega arith) (ne-eqb (brokenAt b i) 0 (λ y. n (x ∙ y)))); which = λ z. x }
+      record { place = sym (first-here (placeOk b) i (e - i) (omega arith) (ne-eqb (brokenAt b i) 0 (λ y. n (x ∙ y)))); which = λ z. x; none = λ z. absurd (omega arith) }
 
   pub passed : u ≡ 0 → Passed b p i e d pn gc pc er k c (i + s)
   unfolding placeOk
@@ -234,6 +234,7 @@ module _ (b : List ℕ) {p i e d pn gc pc er : ℕ} {k : Kind} {c end : ℕ} (h 
         record {
           place = g ∙ sym s ∙ sym (first-next (placeOk b) i (e - i) (e - (i + 1)) (omega arith) (h .ok));
           which = λ v. f .which (omega arith);
+          none = λ v. absurd (omega (arith, h .inside));
         }
 
     module _ (z : end ≤ r) where
@@ -280,7 +281,7 @@ module _ (b : List ℕ) {p i e d pn gc pc er : ℕ} {k : Kind} {c end : ℕ} (h 
 module _ (b : List ℕ) {n m : ℕ} {k : Kind} {u : Bool} (h : 0 < n) (el : length b ≡ n * size) (ek : k ≡ kindAt b 0) (em : m ≡ kindNumber k) (eu : u ≡ among 1 2 m) where
   top-not : topOk b ≡ false → Finds b 0 n 0 9
   unfolding placeOk brokenAt
-  top-not x = record { place = sym (first-here (placeOk b) 0 n h (rw x)); which = λ z. rw x }
+  top-not x = record { place = sym (first-here (placeOk b) 0 n h (rw x)); which = λ z. rw x; none = λ z. absurd (omega arith) }
 
   pub top-kind : u ≡ false → Finds b 0 n 0 9
   unfolding topOk
@@ -300,6 +301,7 @@ module _ (b : List ℕ) {n m : ℕ} {k : Kind} {u : Bool} (h : 0 < n) (el : leng
       top-rest f = record {
         place = f .place ∙ sym (first-next (placeOk b) 0 n (n - 1) (omega arith) top-ok);
         which = λ z. f .which (omega arith);
+        none = λ z. f .none (omega arith);
       }
 
       pub top-walk : {c : ℕ} → firstFrom (fieldOk b) 0 n ≡ n → c ≡ byteOf b 0 4 → Walk b 0 1 n 1 m c c 0
@@ -326,11 +328,11 @@ module _ (b : List ℕ) {n m : ℕ} {k : Kind} {u : Bool} (h : 0 < n) (el : leng
 
 -- where nothing stands below a child, nothing there breaks a rule
 pub found-leaf : (b : List ℕ) (i : ℕ) {end : ℕ} → end ≡ i + 1 → Finds b (i + 1) (end - (i + 1)) end 0
-found-leaf b i e = record { place = e ∙ sym (first-none (placeOk b) (i + 1) _ (omega arith)); which = λ z. absurd (omega arith) }
+found-leaf b i e = record { place = e ∙ sym (first-none (placeOk b) (i + 1) _ (omega arith)); which = λ z. absurd (omega arith); none = λ z. refl }
 
 -- the search of a row is that of its rest
 pub found : (b : List ℕ) {i k j m at rule : ℕ} → Finds b j m at rule → firstFrom (placeOk b) i k ≡ firstFrom (placeOk b) j m → i + k ≡ j + m → Finds b i k at rule
-found b f e l = record { place = f .place ∙ sym e; which = λ z. f .which (omega arith) }
+found b f e l = record { place = f .place ∙ sym e; which = λ z. f .which (omega arith); none = λ z. f .none (omega arith) }
 
 pub found-none : (b : List ℕ) {i k j : ℕ} → firstFrom (placeOk b) i k ≡ j → j ≡ i + k → Finds b i k j 0
-found-none b e l = record { place = sym e; which = λ z. absurd (omega arith) }
+found-none b e l = record { place = sym e; which = λ z. absurd (omega arith); none = λ z. refl }

@@ -32,3 +32,4 @@ pub record Walk (b : List ℕ) (p i e d pn gc pc er : ℕ) : Type 0 where
 pub record Finds (b : List ℕ) (i k at rule : ℕ) : Type 0 where
   pub place : at ≡ firstFrom (placeOk b) i k
   pub which : at < i + k → rule ≡ brokenAt b at
+  pub none : at ≡ i + k → rule ≡ 0
