@@ -8,7 +8,7 @@ use lib.Seq.{getD-set-same, getD-set-other}
 use native.Mathlib.Omega.{arith}
 use Rattle.record.specs.Forest.{Forest, none, node, spanIn, forest}
 use Rattle.record.proofs.Forests.{span-pos, span-le, forest-none, forest-more, forest-step}
-use Rattle.elders.specs.Links.{lastOf, Row, Linked, Kept, Below}
+use Rattle.elders.specs.Links.{lastOf, LinkedFrom, Linked, Kept, Below}
 
 -- record `at` ends at `next`, in a row from i to stop; what is below it is linked
 pub record Piece (b t : List ℕ) (i stop next at : ℕ) : Type 0 where
@@ -55,15 +55,15 @@ forest-first b i stop {s} h e =
     let q = span-le b i (stop - i) in
     forest-next b i (i + s) stop (omega (arith, p, e)) (omega (arith, q, e, h)) (omega (arith, e))
 
-row-none : (b t : List ℕ) (p i left : ℕ) → left ≤ 0 → Row t p (forest b i left)
-unfolding Row
+row-none : (b t : List ℕ) (p i left : ℕ) → left ≤ 0 → LinkedFrom t p (forest b i left)
+unfolding LinkedFrom
 row-none b t p i left e = rw (forest-none b i left e) tt
 
 -- from a linked forest to its row, walked
 module _ (b t : List ℕ) (i stop : ℕ) where
-  walk : (fuel left next at : ℕ) → left ≤ fuel → next + left ≡ stop → Before b t i stop next at → Row t at (forest b next (stop - next))
+  walk : (fuel left next at : ℕ) → left ≤ fuel → next + left ≡ stop → Before b t i stop next at → LinkedFrom t at (forest b next (stop - next))
       → Before b t i stop stop (lastOf at (forest b next (stop - next)))
-  unfolding Row lastOf Linked
+  unfolding LinkedFrom lastOf Linked
   walk zero left next at f h q r =
       let e : next ≡ stop = omega (arith, f, h) in
       let q₁ : Before b t i stop stop at = rw e at q in
@@ -78,26 +78,26 @@ module _ (b t : List ℕ) (i stop : ℕ) where
       let l : s ≤ stop - next = span-le b next (stop - next) in
       let w : forest b next (stop - next) ≡ node next (forest b (next + 1) (next + s - next - 1)) (forest b (next + s) (stop - (next + s)))
       = forest-first b next stop (omega (arith, h)) refl in
-      let r₁ : Row t at (node next (forest b (next + 1) (next + s - next - 1)) (forest b (next + s) (stop - (next + s)))) = rw w at r in
+      let r₁ : LinkedFrom t at (node next (forest b (next + 1) (next + s - next - 1)) (forest b (next + s) (stop - (next + s)))) = rw w at r in
       let q₁ : Before b t i stop next (getD t next 0) = rw (r₁ .0) q in
       let piece : Piece b t i stop (next + s) next
       = record { from = first-le q; upto = omega (arith, p); inside = omega (arith, l, h); spans = omega arith; below = r₁ .1 } in
       rw w (walk fuel (suc left - s) (next + s) next (omega (arith, p, f)) (omega (arith, l, h)) (ended (next + s) next piece q₁) (r₁ .2))
 
   pub before-of : i < stop → Linked t (forest b i (stop - i)) → Before b t i stop stop (getD t i 0)
-  unfolding Linked Row lastOf
+  unfolding Linked LinkedFrom lastOf
   before-of h r =
       let s : ℕ = spanIn b i (stop - i) in
       let w : forest b i (stop - i) ≡ node i (forest b (i + 1) (i + s - i - 1)) (forest b (i + s) (stop - (i + s)))
       = forest-first b i stop h refl in
-      let r₁ : Row t (lastOf i (forest b (i + s) (stop - (i + s)))) (node i (forest b (i + 1) (i + s - i - 1)) (forest b (i + s) (stop - (i + s)))) = rw w at r in
+      let r₁ : LinkedFrom t (lastOf i (forest b (i + s) (stop - (i + s)))) (node i (forest b (i + 1) (i + s - i - 1)) (forest b (i + s) (stop - (i + s)))) = rw w at r in
       let q = walk (stop - i) (stop - i) i (lastOf 0 (forest b i (stop - i))) (omega arith) (omega (arith, h)) (begun _) r in
       let q₁ : Before b t i stop stop (lastOf i (forest b (i + s) (stop - (i + s)))) = rw w at q in
       rw (r₁ .0) q₁
 
 -- what is linked is so in every table that is the same there
-row-same : (b t u : List ℕ) (fuel p i left : ℕ) → left ≤ fuel → ((k : ℕ) → i ≤ k → k < i + left → getD u k 0 ≡ getD t k 0) → Row t p (forest b i left) → Row u p (forest b i left)
-unfolding Row
+row-same : (b t u : List ℕ) (fuel p i left : ℕ) → left ≤ fuel → ((k : ℕ) → i ≤ k → k < i + left → getD u k 0 ≡ getD t k 0) → LinkedFrom t p (forest b i left) → LinkedFrom u p (forest b i left)
+unfolding LinkedFrom
 row-same b t u zero p i left f h r = row-none b u p i left (omega (arith, f))
 row-same b t u (suc fuel) p i zero f h r = row-none b u p i 0 (omega arith)
 row-same b t u (suc fuel) p i (suc l) f h r =
@@ -105,7 +105,7 @@ row-same b t u (suc fuel) p i (suc l) f h r =
     let q : 0 < s = span-pos b i (suc l) (omega arith) in
     let m : s ≤ suc l = span-le b i (suc l) in
     let w : forest b i (suc l) ≡ node i (forest b (i + 1) (s - 1)) (forest b (i + s) (suc l - s)) = forest-step b i (suc l) (omega arith) in
-    let r₁ : Row t p (node i (forest b (i + 1) (s - 1)) (forest b (i + s) (suc l - s))) = rw w at r in
+    let r₁ : LinkedFrom t p (node i (forest b (i + 1) (s - 1)) (forest b (i + s) (suc l - s))) = rw w at r in
     rw w (
       h i (omega arith) (omega arith) ∙ r₁ .0,
       row-same b t u fuel (lastOf 0 (forest b (i + 1) (s - 1))) (i + 1) (s - 1) (omega (arith, f, m, q)) (λ k g j. h k (omega (arith, g)) (omega (arith, j, m, q))) (r₁ .1),
@@ -135,16 +135,16 @@ before-same {b} {t} {i} {stop} u h (ended next at p (ended n a q r)) =
 
 -- from a walked row back to a linked forest
 module _ (b t : List ℕ) (i stop : ℕ) where
-  unwalk : (next at : ℕ) → Before b t i stop next at → i < next → Row t at (forest b next (stop - next)) → lastOf at (forest b next (stop - next)) ≡ getD t i 0
+  unwalk : (next at : ℕ) → Before b t i stop next at → i < next → LinkedFrom t at (forest b next (stop - next)) → lastOf at (forest b next (stop - next)) ≡ getD t i 0
       → Linked t (forest b i (stop - i))
-  unfolding Row lastOf Linked
+  unfolding LinkedFrom lastOf Linked
   unwalk next at (begun a) h r e = absurd (omega (arith, h))
   unwalk next at (ended n a p (begun c)) h r e =
       let w = forest-next b at next stop (p .upto) (p .inside) (p .spans) in
       rw w (sym e, p .below, r)
   unwalk next at (ended n a p (ended m c q s)) h r e =
       let w = forest-next b at next stop (p .upto) (p .inside) (p .spans) in
-      let r₁ : Row t (getD t at 0) (forest b at (stop - at)) = rw w (refl, p .below, r) in
+      let r₁ : LinkedFrom t (getD t at 0) (forest b at (stop - at)) = rw w (refl, p .below, r) in
       let e₁ : lastOf (getD t at 0) (forest b at (stop - at)) ≡ getD t i 0 = rw w e in
       unwalk at (getD t at 0) (ended m c q s) (omega (arith, q .from, q .upto)) r₁ e₁
 
@@ -225,8 +225,8 @@ unfolding Linked
 linking-none b t from stop e = (row-none b t _ from (stop - from) (omega (arith, e)), record { long = refl; before = λ k g. refl; behind = λ k g. refl })
 
 -- what is below the records of a row
-row-below : (t : List ℕ) (p : ℕ) (f : Forest) → Row t p f → Below t f
-unfolding Row Below Linked
+row-below : (t : List ℕ) (p : ℕ) (f : Forest) → LinkedFrom t p f → Below t f
+unfolding LinkedFrom Below Linked
 row-below t p none r = tt
 row-below t p (node i kids rest) r = (r .1, row-below t i rest (r .2))
 

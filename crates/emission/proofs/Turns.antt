@@ -22,7 +22,7 @@ use Rattle.layout.specs.declared.Op.the-variants.{Not}
 use Rattle.layout.specs.Layout.{effectCode}
 use Rattle.code.specs.Code.{codeConjunction, codeSection, codeCondition, codeRules, codeObligations, codeTree, codeApplies, inNumbers, translated}
 use Rattle.emission.specs.Emit.{Emitted, matchesIn, matchesCode, conjunctionCode, conjunctionsIn, conjunctionsCode, sectionCode, targetCode, conditionCode, conditionsCode, whenCode, ruleCode, rulesCode, obligationsCode, treeCode, treesCode, algorithmAt, bodyCode, withinCode, dueIn}
-use Rattle.elders.specs.Links.{Row, Linked, Below}
+use Rattle.elders.specs.Links.{LinkedFrom, Linked, Below}
 use Rattle.elders.proofs.Links.{Piece, Before, begun, ended, piece-of, turn, first-le, forest-next, forest-first, before-of, below-rest}
 use Rattle.emission.proofs.Emit.{Splits, Three, follows, behind, behind-fits, before-fits, nothing, differs, is-kind, no-kind, opAt, target-more, condition-bare, condition-not, condition-parts, conditions-none, when-none, when-found, when-other, rule-parts, rules-none, obligations-none, body-parts, body-set, body-policy, within-parts, trees-none, due-none, due-own, due-else, due-flat, due-party, due-other, programme-parts}
 
@@ -446,7 +446,7 @@ module _ {left due end start : ℕ} {o o₁ : List ℕ} (g : Ending left due end
 
 -- what is below the first record of a row
 pub first-linked : (b t : List ℕ) (i stop s : ℕ) → i < stop → s ≡ spanIn b i (stop - i) → Linked t (forest b i (stop - i)) → Linked t (forest b (i + 1) (i + s - (i + 1)))
-unfolding Linked Row
+unfolding Linked LinkedFrom
 first-linked b t i stop s h e r =
     let f : i + s - i - 1 ≡ i + s - (i + 1) = omega arith in
     let r₁ = rw (forest-first b i stop h e) at r in

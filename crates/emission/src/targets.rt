@@ -1,4 +1,4 @@
-// The code of targets: sections of conjunctions of matches. What c, l, n and x are is said in specs/Code.antt.
+// The code of targets: sections of conjunctions of matches. What c, l, n and x are is said in `code/specs/Code.antt`.
 use crate::MATCH;
 use crate::prepend;
 use crate::test_word;

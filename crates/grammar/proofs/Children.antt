@@ -1,4 +1,4 @@
--- How a row goes on by one child: a law for each loop of `src/grammar.rt` over children of one kind. Assumes nothing.
+-- How a row goes on by one child: a law for each loop of `src/lib.rt` over children of one kind. Assumes nothing.
 use mathlib.Core.Path.{_≡_, refl, sym, _∙_}
 use mathlib.Core.Bool.{true}
 use mathlib.Core.List.{List}

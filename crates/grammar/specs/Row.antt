@@ -1,4 +1,4 @@
--- A row of records that keep every rule, as one pass over a sound book finds it: `src/grammar.rt`. Assumes nothing.
+-- A row of records that keep every rule, as one pass over a sound book finds it: `src/lib.rt`. Assumes nothing.
 use Prim.Native.Nat.{ℕ, _+_, _≤_, _<_}
 use mathlib.Core.Path.{_≡_}
 use mathlib.Core.Bool.{Bool, true}

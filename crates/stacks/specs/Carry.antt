@@ -13,7 +13,7 @@ use Rattle.stacks.specs.Machine.{heightAfter, cutAfter, permitsAfter, de
 use Rattle.moves.specs.declared.Change.the-variants.{Keep, Push, Swap, Under, Back}
 use Rattle.moves.specs.Moves.{changeOf}
 
--- the same as it is carried out
+-- a change of a stack in numbers, as it is carried out: of what the code passes on, and of what the core says
 abbrev pub changingOf : Change → Changing ℕ
 changingOf Keep = keep
 changingOf (Push n) = push n

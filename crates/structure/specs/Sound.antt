@@ -1,4 +1,4 @@
--- When subtrees are sound: every record keeps its field rules, states its span and may stand where it does. The rules are those of `fields` and `judge`, asked of
+-- When subtrees are sound: every record keeps its field rules, states its span and may stand where it does. The rules are those of `fields` and `placement`, asked of
 -- a record by itself, as record 0 of its bytes. Assumes nothing.
 use Prim.Native.Nat.{ℕ, suc, _+_, _≤_}
 use mathlib.Core.Path.{_≡_}
