@@ -6,8 +6,9 @@ use Prim.Native.Nat.{ℕ, _+_, _-_, _≤_, _<_}
 use native.Mathlib.Omega.{arith}
 use native.Mathlib.Numerals.{add-one}
 use lib.ListN.{length, take, drop, set, getD, replicate, length-append, length-take, length-drop, take-append-drop}
-use lib.Seq.{take-take, take-at, drop-at, take-add, take-suc-set, length-take-le, getD-drop, paste, paste-zero, paste-suc, drop-paste}
+use lib.Seq.{take-take, take-at, drop-at, take-add, take-suc-set, length-take-le, getD-drop, paste, drop-paste}
 use Rattle.record.specs.Choose.{if}
+use Rattle.record.proofs.Filling.{Filled, fill-more}
 use Rattle.decider.specs.Places.{Holds, Stacked, between}
 
 pub holds-none : (l : List ℕ) (n : ℕ) → Holds l n [] l n
@@ -76,12 +77,8 @@ unfolding between
 length-between l m e h g = length-take-le (e - m) (drop m l) (omega (arith, length-drop m l))
 
 -- the loop that moves
-pub shift-none : (l : List ℕ) (at m : ℕ) → l ≡ paste l at (drop m l) 0
-shift-none l at m = paste-zero l at (drop m l)
-
-pub shift-more : (l o : List ℕ) (at m k : ℕ) → at ≤ m → m + k < length l → o ≡ paste l at (drop m l) k
-    → set o (at + k) (getD o (m + k) 0) ≡ paste l at (drop m l) (k + 1)
-shift-more l o at m k h g e =
+pub shift-more : (l o : List ℕ) (at m k : ℕ) → at ≤ m → m + k < length l → Filled l at (drop m l) k o → Filled l at (drop m l) (k + 1) (set o (at + k) (getD o (m + k) 0))
+shift-more l o at m k h g w =
     let dl : length (drop m l) ≡ length l - m = length-drop m l in
     let c : (at + k) + (m - at) ≡ m + k = omega arith in
     let v : getD (paste l at (drop m l) k) (m + k) 0 ≡ getD (drop m l) k 0 =
@@ -89,12 +86,12 @@ shift-more l o at m k h g e =
     ∙ sym (getD-drop (at + k) (paste l at (drop m l) k) (m - at) 0)
     ∙ ap (λ z. getD z (m - at) 0) (drop-paste l at (drop m l) k (omega arith) (omega arith))
     ∙ getD-drop (at + k) l (m - at) 0 ∙ ap (λ z. getD l z 0) c ∙ sym (getD-drop m l k 0) in
-    rw (e, v) (paste-suc l at (drop m l) k 0 (omega arith) (omega arith) ∙ ap (paste l at (drop m l)) (sym (add-one k)))
+    let x : getD o (m + k) 0 ≡ getD (drop m l) k 0 = rw (w .holds) v in
+    fill-more w refl (omega arith) (omega arith) (omega arith) x
 
-pub shift-done : (l o : List ℕ) (at m e k : ℕ) → m ≤ e → e ≤ length l → k ≡ e - m → o ≡ paste l at (drop m l) k
-    → Stacked l at (between m e l) o (at + (e - m))
+pub shift-done : (l o : List ℕ) (at m e k : ℕ) → m ≤ e → e ≤ length l → k ≡ e - m → Filled l at (drop m l) k o → Stacked l at (between m e l) o (at + (e - m))
 unfolding between
-shift-done l o at m e k g j q w = record { places = w ∙ ap (paste l at (drop m l)) q; count = omega (arith, length-between l m e g j) }
+shift-done l o at m e k g j q w = record { places = w .holds ∙ ap (paste l at (drop m l)) q; count = omega (arith, length-between l m e g j) }
 
 -- nothing is moved
 pub keep-both : (l : List ℕ) (m e : ℕ) → m ≤ e → e ≤ length l → Stacked l m (between m e l) l e

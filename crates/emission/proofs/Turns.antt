@@ -38,6 +38,10 @@ empty-at b next stop h = go (stop - next) refl
     go zero e = rw (forest-none b next (stop - next) (omega (arith, e)), eq-eqb next stop (omega (arith, e, h))) refl
     go (suc left) e = rw (forest-step b next (stop - next) (omega (arith, e)), ne-eqb next stop (λ z. omega (arith, e, z))) refl
 
+-- how many records stand below record i
+pub kids-left : (i stop : ℕ) → stop - i - 1 ≡ stop - (i + 1)
+kids-left i stop = omega arith
+
 -- a row from the record that is walked next on
 row-is : {b t : List ℕ} {i stop next at : ℕ} → Piece b t i stop next at → forest b at (stop - at) ≡ node at (forest b (at + 1) (next - at - 1)) (forest b next (stop - next))
 row-is {b} {stop = stop} {next = next} {at = at} p = forest-next b at next stop (p .upto) (p .inside) (p .spans)
@@ -142,8 +146,7 @@ module _ (b : List ℕ) (i stop : ℕ) (c l : Bool) (n x : ℕ) where
   pub conjunction-more : i < stop → (i + 1 ≡ stop → ⊥) → conjunctionCode b i (stop - i) c l n x ≡ matchesCode b (i + 1) (stop - (i + 1)) c l n x
   unfolding conjunctionCode conjunctionAt childrenAt matchesIn
   conjunction-more h f =
-      let e : stop - i - 1 ≡ stop - (i + 1) = omega arith in
-      rw (e, forest-step b (i + 1) (stop - (i + 1)) (omega (arith, h, f))) refl
+      rw (kids-left i stop, forest-step b (i + 1) (stop - (i + 1)) (omega (arith, h, f))) refl
 
 conjunction-before : (b : List ℕ) (at : ℕ) (kids rest : Forest) (l : Bool) (x k : ℕ) → k ≡ length (conjunctionsIn b rest l x)
     → conjunctionsIn b (node at kids rest) l x ≡ codeConjunction (conjunctionAt b at kids) (empty rest) l k (k + x) ++ conjunctionsIn b rest l x
@@ -180,8 +183,7 @@ module _ (b : List ℕ) (i stop : ℕ) (l : Bool) (x : ℕ) where
   pub section-more : i < stop → (i + 1 ≡ stop → ⊥) → sectionCode b i (stop - i) l x ≡ conjunctionsCode b (i + 1) (stop - (i + 1)) l x
   unfolding sectionCode sectionAt childrenAt conjunctionsIn
   section-more h f =
-      let e : stop - i - 1 ≡ stop - (i + 1) = omega arith in
-      rw (e, forest-step b (i + 1) (stop - (i + 1)) (omega (arith, h, f))) refl
+      rw (kids-left i stop, forest-step b (i + 1) (stop - (i + 1)) (omega (arith, h, f))) refl
 
 module _ (b : List ℕ) (i stop s x : ℕ) (h : i < stop) (k : byteOf b i 0 ≡ 4) (e : s ≡ spanIn b i (stop - i)) where
   pub target-next : (mid end : ℕ) → mid + length (targetCode b (i + s) (stop - (i + s)) x) ≡ end
@@ -219,19 +221,13 @@ module _ (b : List ℕ) (i stop n : ℕ) (h : i < stop) where
   pub cond-not : (t : ℕ) → byteOf b i 1 ≡ 3 → (i + 1 ≡ stop → ⊥) → t ≡ spanIn b (i + 1) (stop - (i + 1))
       → Three (conditionCode b i (stop - i) n) (opens Not ∷ []) (conditionCode b (i + 1) (i + 1 + t - (i + 1)) 0) (close n ∷ [])
   cond-not t e f g =
-      let k : stop - i - 1 ≡ stop - (i + 1) = omega arith in
       let m : i + 1 + t - (i + 1) ≡ t = omega arith in
-      let g₁ : t ≡ spanIn b (i + 1) (stop - i - 1) = rw k g in
+      let g₁ : t ≡ spanIn b (i + 1) (stop - i - 1) = rw (kids-left i stop) g in
       rw m (condition-not b i (stop - i) t n (omega (arith, h, f)) e g₁)
 
   pub cond-parts : (byteOf b i 1 ≡ 0 → ⊥) → byteOf b i 1 ≤ 3 → (byteOf b i 1 ≡ 3 → ⊥)
       → Three (conditionCode b i (stop - i) n) (opens (opAt (byteOf b i 1)) ∷ []) (conditionsCode b (i + 1) (stop - (i + 1))) (close n ∷ [])
-  cond-parts p q r =
-      let k : stop - i - 1 ≡ stop - (i + 1) = omega arith in
-      rw k at (condition-parts b i (stop - i) n p q r)
-
-pub kids-left : (i stop : ℕ) → stop - i - 1 ≡ stop - (i + 1)
-kids-left i stop = omega arith
+  cond-parts p q r = rw (kids-left i stop) at (condition-parts b i (stop - i) n p q r)
 
 -- the condition of a rule
 module _ (b : List ℕ) (i stop s : ℕ) (h : i < stop) (e : s ≡ spanIn b i (stop - i)) where

@@ -66,6 +66,7 @@ module _ (b : List ℕ) (d pn gc pc lo : ℕ) {i e end below due : ℕ} {k : Kin
   finds p r h w ok = record {
     place = sym (first-reach-all (placeOk b) (i + 1) (i + spanOf b i - (i + 1)) (λ m a z. ok m a (omega (arith, span-is))) ∙ omega (arith, span-is));
     which = λ z. absurd (omega (arith, span-is));
+    none = λ z. refl;
   }
 
   pub row-child : Row b i end e d pn gc pc lo (rankOf k (byteOf b i 4)) (if (eqb (byteOf b i 0) 8) 1 0 + due)

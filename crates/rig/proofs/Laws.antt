@@ -40,10 +40,10 @@ module _ (ns ps : List ℕ) where
   unfolding stateIn
   few-places enough few e = rw (le-ltb _ _ enough, lt-ltb _ _ few) e
 
-  pub held : {fs ls hs : List ℕ} → 33 ≤ length ns → roomP ≤ length ps → fs ≡ take 17 (drop 1 ns) → ls ≡ take 15 (drop 18 ns) → hs ≡ take roomP ps ++ []
+  pub held : {fs ls hs : List ℕ} → 33 ≤ length ns → roomP ≤ length ps → fs ≡ take 17 (drop 1 ns) → ls ≡ take 15 (drop 18 ns) → hs ≡ take roomP ps
       → stateOf (getD ns 0 0) fs ls hs ≡ stateIn ns ps
   unfolding stateIn
-  held numbers places f l h = rw (le-ltb _ _ numbers, le-ltb _ _ places, f, l, h, append-nil) refl
+  held numbers places f l h = rw (le-ltb _ _ numbers, le-ltb _ _ places, f, l, h) refl
 
 -- the numbers of a state that are put into them: the first number, the frames, the levels
 module _ (ns : List ℕ) (h : ℕ) (fs : List ℕ) (enough : 33 ≤ length ns) (frames : length fs ≡ 17) where

@@ -100,6 +100,7 @@ module _ (b : List ℕ) {p i e d pn gc pc er : ℕ} (w : Walk b p i e d pn gc pc
       rest b passes {r = i + spanOf b i} {x = 0} (record {
         place = sym (first-reach-all (placeOk b) (i + 1) (i + spanOf b i - (i + 1)) (λ m a z. all m a (omega arith)) ∙ omega arith);
         which = λ z. absurd (omega arith);
+        none = λ z. refl;
       }) (omega arith) (sym (rank-of b i))
 
 abbrev parent : ℕ → ℕ → ℕ → ℕ → Parent

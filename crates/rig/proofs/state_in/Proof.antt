@@ -1,3 +1,5 @@
+use mathlib.Core.Path.{_∙_}
+use mathlib.Core.List.{append-nil}
 use borrow.Author.Needs.{needs}
 use Rattle.rig.proofs.Laws.{few-numbers, few-places, held}
 use Rattle.rig.proofs.state_in.Statement.{statement}
@@ -15,7 +17,7 @@ returns-3 c =
     let at-levels = at-copy .before .before .before in
     let at-frames = at-levels .before .before .before .before in
     let at-if2 = at-frames .before .before .before in
-    held _ _ (at-if2 .before .if1 .left) (at-if2 .if2 .left) (at-frames .copy-numbers .ensures) (at-levels .copy-numbers2 .ensures) (at-copy .copy .ensures)
+    held _ _ (at-if2 .before .if1 .left) (at-if2 .if2 .left) (at-frames .copy-numbers .ensures) (at-levels .copy-numbers2 .ensures) (at-copy .copy .ensures ∙ append-nil _)
 
 pub state-in-spec : {M : Type 1} → statement M
 state-in-spec =

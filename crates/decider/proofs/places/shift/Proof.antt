@@ -1,6 +1,6 @@
-use Rattle.decider.proofs.Stack.{shift-none, shift-more, shift-done}
-use lib.Seq.{paste}
-use lib.ListN.{length, drop, length-set}
+use Rattle.record.proofs.Filling.{Filled, fill-none}
+use Rattle.decider.proofs.Stack.{shift-more, shift-done}
+use lib.ListN.{drop}
 use Prim.Native.Nat.{_-_, _≤_}
 use mathlib.Core.Path.{_≡_, refl}
 use native.Mathlib.Omega.{arith}
@@ -9,26 +9,26 @@ use Rattle.decider.proofs.places.shift.Statement.{statement}
 use Rattle.decider.proofs.places.shift.Tie as tie
 
 abbrev Inv-loop : tie.InvT-loop
-Inv-loop out₀ at m e total k₀ out k = (total ≡ e - m) × (k ≤ total) × (length out ≡ length out₀) × (out ≡ paste out₀ at (drop m out₀) k)
+Inv-loop out₀ at m e total k₀ out k = (total ≡ e - m) × (k ≤ total) × Filled out₀ at (drop m out₀) k out
 
 abbrev μ-loop : tie.MeasureT-loop
 μ-loop out₀ at m e total k₀ out k = total - k
 
 loop-holds : tie.Need-loop-holds Inv-loop μ-loop
-loop-holds c = (refl, omega arith, refl, shift-none (c .args .out .now) (c .args .at) (c .args .m))
+loop-holds c = (refl, omega arith, fill-none _ _ _ refl)
 
 loop-again : tie.Need-loop-again Inv-loop μ-loop
-loop-again c = (search needs, omega arith, simp length-set (c .before .before .loop .inv .2), shift-more (c .before .before .before .args .out .now) _ _ _ _ (c .before .before .before .pre .0) (omega arith) (c .before .before .loop .inv .3))
+loop-again c = (search needs, omega arith, shift-more _ _ _ _ _ (c .before .before .before .pre .0) (omega arith) (c .before .before .loop .inv .2))
 
 same-length : tie.Need-same-length Inv-loop μ-loop
-same-length c = c .before .loop .inv .2
+same-length c = c .before .loop .inv .2 .long
 
 returns : tie.Need-returns Inv-loop μ-loop
 returns c =
     let loop = c .before .loop in
     let args = c .before .before .args in
     let pre = c .before .before .pre in
-    shift-done (args .out .now) (loop .out) (args .at) (args .m) (args .e) (loop .k) (pre .1) (pre .2) (omega arith) (loop .inv .3)
+    shift-done (args .out .now) (loop .out) (args .at) (args .m) (args .e) (loop .k) (pre .1) (pre .2) (omega arith) (loop .inv .2)
 
 pub shift-spec : {M : Type 1} → statement M
 shift-spec =
