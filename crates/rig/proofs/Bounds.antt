@@ -13,7 +13,6 @@ use Rattle.meaning.specs.Reading.{bookOf}
 use Rattle.judge.specs.Judge.{judgeOf}
 use Rattle.judge.specs.declared.Judged.{Judged}
 use Rattle.judge.specs.declared.Judged.the-variants as book
-use Rattle.judge.specs.declared.JudgedRequest.the-variants as judged
 use Rattle.judge.proofs.Bounds.{refused-small}
 use Rattle.judge.proofs.Exactly.{accepted-keeps}
 use Rattle.layout.specs.declared.State.{State}
