@@ -10,13 +10,12 @@ use borrow.Author.Tests.{ltb-true, leb-true}
 use Rattle.record.specs.Choose.{if, both}
 use Rattle.record.proofs.Choose.{both-parts}
 use Rattle.meaning.specs.Logic.{andOf, orOf, targetAnd}
-use Rattle.meaning.specs.Meaning.{Bags, matchOf, comparisonOf, is, decisionOf}
+use Rattle.meaning.specs.Meaning.{Bags, matchOf, comparisonOf, is}
 use Rattle.meaning.specs.declared.Truth.{Truth}
 use Rattle.meaning.specs.declared.Truth.the-variants.{True, False, Unknown}
 use Rattle.meaning.specs.declared.Decision.{Decision}
 use Rattle.meaning.specs.declared.Decision.the-variants.{Permit, Deny, NotApplicable, Indeterminate}
-use Rattle.meaning.specs.declared.Effect.{Effect}
-use Rattle.meaning.specs.declared.Effect.the-variants.{Permits, Denies}
+use Rattle.meaning.specs.declared.Effect.the-variants.{Permits}
 use Rattle.algorithm.specs.Fold.{result, settled, absorb}
 use Rattle.algorithm.specs.declared.Acc.{Acc}
 use Rattle.algorithm.specs.declared.Acc.the-variants.{Ranked, Nobody, Pending, Two, One}
@@ -26,7 +25,7 @@ use Rattle.layout.specs.declared.Level.{Level}
 use Rattle.moves.specs.declared.Placing.{Placing}
 use Rattle.moves.specs.declared.Placing.the-variants.{Rest, AddPermit, AddDeny, FallPermit, FallDeny, FallBoth, Cut, Down}
 use Rattle.layout.specs.Entry.{Entry, begin, match, further, opens, compare, close, rule, enter, applies, conclude, oblige, leave, finish, extra, reach, fits, lawful}
-use Rattle.moves.specs.Core.{past, told, settledBy, targetDone, sectionDone, conjunctionDone, matchDone, tell, closed, concluded, noted, pushed, finished, core}
+use Rattle.moves.specs.Core.{past, told, settledBy, targetDone, sectionDone, conjunctionDone, matchDone, tell, closed, concluded, noted, finished, core}
 use Rattle.layout.specs.Room.{roomF, roomL, roomP}
 use Rattle.stacks.specs.Machine.{permitsAfter, deniesAfter, cutAfter}
 use Rattle.layout.specs.Layout.{unpackOf, allowed, fetch}
@@ -34,6 +33,7 @@ use Rattle.programme.specs.Step.{headAfter, after, seen, mayStep, stepOf
 use Rattle.layout.specs.declared.State.{State}
 use Rattle.layout.proofs.Coding.{ranged, ranged-back, allowed-pack}
 use Rattle.stacks.proofs.Bounds.{height-fits}
+use Rattle.moves.proofs.Placings.{ByEntry, placing-by}
 use Rattle.layout.specs.Ranges.{Ranged}
 use Rattle.stacks.specs.Carry.{Placed}
 
@@ -115,52 +115,17 @@ inside finish g long h l m f b w = go (both (is (h .reg) Deny) (ltb (h .permits)
 -- what becomes of the obligations is within reach
 pub placed-core : (e : Entry) (g : Bags) (h : Head) (l m : Level) (f b : Frame) → fits e ≡ true
     → Placed (core g h e l m f b .placing) (h .permits) (h .denies)
-unfolding core
-placed-core (begin al c) g h l m f b w = leb-true c roomP w
-placed-core (match t k c s i j x) g h l m f b w = tt
-placed-core further g h l m f b w = tt
-placed-core (opens op) g h l m f b w = tt
-placed-core (compare t n) g h l m f b w = go (h .nest)
+placed-core e g h l m f b = placing-by (λ e over z. fits e ≡ true → Placed z (h .permits) (h .denies)) h reach-all g e l m f b
   where
-    go : (k : ℕ) → Placed (tell (comparisonOf g t) n k l (h .reg) .placing) (h .permits) (h .denies)
-    go zero = tt
-    go (suc k) = tt
-placed-core (close n) g h l m f b w = go (h .nest)
-  where
-    go : (k : ℕ) → Placed (closed n k l m (h .reg) .placing) (h .permits) (h .denies)
-    go zero = tt
-    go (suc zero) = tt
-    go (suc (suc k)) = tt
-placed-core (rule e n) g h l m f b w = tt
-placed-core (enter al) g h l m f b w = tt
-placed-core (applies n) g h l m f b w = go (b .acc)
-  where
-    go : (a : Acc) → Placed (noted a b n (h .reg) .placing) (h .permits) (h .denies)
-    go (Ranked k) = tt
-    go Nobody = tt
-    go Pending = tt
-    go Two = tt
-    go (One d) = tt
-placed-core (conclude n) g h l m f b w = go (result (f .alg) (f .acc))
-  where
-    go : (d : Decision) → Placed (concluded d n (f .permits) (f .denies) .placing) (h .permits) (h .denies)
-    go Permit = tt
-    go Deny = tt
-    go NotApplicable = tt
-    go Indeterminate = tt
-placed-core (oblige e n) g h l m f b w = go e (is (h .reg) (decisionOf e))
-  where
-    go : (e : Effect) (x : Bool) → Placed (pushed e x n) (h .permits) (h .denies)
-    go e false = tt
-    go Permits true = ltb-true n 65536 w
-    go Denies true = ltb-true n 65536 w
-placed-core (leave n) g h l m f b w = tt
-placed-core finish g h l m f b w = go (is (h .reg) Deny) (ltb (h .permits) (h .denies)) refl
-  where
-    go : (y x : Bool) → ltb (h .permits) (h .denies) ≡ x → Placed (finished (both y x) h .placing) (h .permits) (h .denies)
-    go true true z = let k = ltb-true (h .permits) (h .denies) z in omega (arith, k)
-    go true false z = tt
-    go false x z = tt
+    reach-all : ByEntry (λ e over z. fits e ≡ true → Placed z (h .permits) (h .denies)) h
+    reach-all = record {
+      rests = λ e w. tt;
+      cuts = λ a c w. leb-true c roomP w;
+      falls = λ n p d. (λ w. tt, λ w. tt, λ w. tt);
+      adds = λ n. (λ w. ltb-true n 65536 w, λ w. ltb-true n 65536 w);
+      ends = λ w. tt;
+      downs = λ k w. omega (arith, k);
+    }
 
 permits-range : (h : Head) (z : Placing) → Placed z (h .permits) (h .denies) → Ranged h → permitsAfter z (h .cut) (h .permits) ≤ roomP
 permits-range h Rest w r = r .permits

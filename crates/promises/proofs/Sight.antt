@@ -5,20 +5,12 @@ use mathlib.Core.Bool.{Bool, true, false}
 use mathlib.Core.Logic.{_⊎_, inl, inr, ⊎-elim}
 use mathlib.Core.List.{List}
 use lib.Dec.{ltb, leb, eqb}
-use lib.ListN.{length, getD, set, length-set, List·getD-eq-default}
+use lib.ListN.{length, getD, set, List·getD-eq-default}
 use lib.Seq.{getD-set-same, getD-set-other}
 use native.Mathlib.Omega.{arith}
-use borrow.Author.Tests.{eqb-true, eqb-false, ne-eqb, ltb-true, ltb-false, lt-ltb, le-ltb, le-leb, lt-leb, leb-true, leb-false}
+use borrow.Author.Tests.{eqb-true, eqb-false, ne-eqb, ltb-true, ltb-false, leb-true, leb-false}
 use Rattle.record.specs.Choose.{if, both}
-use Rattle.record.proofs.Choose.{both-false}
-use Rattle.meaning.specs.Meaning.{Bags, matchOf, comparisonOf, is, decisionOf}
-use Rattle.meaning.specs.declared.Decision.{Decision}
-use Rattle.meaning.specs.declared.Decision.the-variants.{Permit, Deny, NotApplicable, Indeterminate}
-use Rattle.meaning.specs.declared.Effect.{Effect}
-use Rattle.meaning.specs.declared.Effect.the-variants.{Permits, Denies}
-use Rattle.algorithm.specs.Fold.{result}
-use Rattle.algorithm.specs.declared.Acc.{Acc}
-use Rattle.algorithm.specs.declared.Acc.the-variants.{Ranked, Nobody, Pending, Two, One}
+use Rattle.meaning.specs.Meaning.{Bags, matchOf, comparisonOf, is}
 use Rattle.layout.specs.declared.Head.{Head}
 use Rattle.layout.specs.declared.State.{State}
 use Rattle.layout.specs.declared.Frame.{Frame}
@@ -26,13 +18,14 @@ use Rattle.layout.specs.declared.Level.{Level}
 use Rattle.moves.specs.declared.Placing.{Placing}
 use Rattle.moves.specs.declared.Placing.the-variants.{Rest, AddPermit, AddDeny, FallPermit, FallDeny, FallBoth, Cut, Down}
 use Rattle.layout.specs.Entry.{Entry, begin, match, further, opens, compare, close, rule, enter, applies, conclude, oblige, leave, finish}
-use Rattle.moves.specs.Core.{Changing, keep, push, swap, below, back, Out, tell, closed, concluded, noted, pushed, finished, core}
+use Rattle.moves.specs.Core.{Changing, keep, push, swap, below, back, Out, core}
 use Rattle.layout.specs.Room.{roomF, roomL, roomP}
 use Rattle.stacks.specs.Machine.{stackAfter, copies, placesAfter}
 use Rattle.layout.specs.Layout.{frameWord, levelWord, fetch}
 use Rattle.stacks.specs.Carry.{inWords}
 use Rattle.programme.specs.Step.{after, seen, mayStep, stepOf, isOver, freshOf}
-use Rattle.stacks.proofs.Bounds.{stack-length, places-length}
+use Rattle.moves.proofs.Placings.{ByEntry, placing-by}
+use Rattle.stacks.proofs.Bounds.{stack-length, places-length, copies-before, copies-behind, copies-at}
 use Rattle.run.specs.Run.{goOn, runOf}
 use Rattle.promises.specs.Place.{headOf, Place, frame, level, place, Sized, There, held, touched, In}
 use Rattle.promises.specs.Sight.{asked, Sight, sightOf, headIn, entryIn, outIn, mayIn, firstAfter, Source, stays, number, from, given, inStack, inPlaces, sourceOf, BySight, AtMostEleven, Obliges, Plain, Puts, Within, TouchesNoMore, ElseStays, Alike, Local, StaysSized, RunsStaySized, FreshSized}
@@ -87,39 +80,6 @@ module _ (s : State) (x : Place) (xs : List ℕ) (k : ℕ) (is : held s x ≡ ge
   in-stack room long (below v) n = stored (n - 1) v
   in-stack room long (back v) n = stored (n - 1) v
 
--- n places from m on
-pub copied : (n c m : ℕ) (xs : List ℕ) (k : ℕ) → k < length xs → getD (copies n c m xs) k 0 ≡ if (both (leb m k) (ltb k (m + n))) (getD xs (c + k) 0) (getD xs k 0)
-unfolding copies
-copied zero c m xs k l = go (leb m k) refl
-  where
-    go : (b : Bool) → leb m k ≡ b → getD xs k 0 ≡ if (both b (ltb k (m + 0))) (getD xs (c + k) 0) (getD xs k 0)
-    go true e = let z = leb-true m k e in rw (le-ltb k (m + 0) (omega (arith, z))) refl
-    go false e = refl
-copied (suc n) c m xs k l =
-    let y = set xs m (getD xs (c + m) 0) in
-    let f = length-set xs m (getD xs (c + m) 0) in
-    copied n c (suc m) y k (omega (arith, l, f)) ∙ go (eqb k m) (leb m k) (ltb k (m + suc n)) refl refl refl
-  where
-    go : (u v w : Bool) → eqb k m ≡ u → leb m k ≡ v → ltb k (m + suc n) ≡ w
-        → if (both (leb (suc m) k) (ltb k (suc m + n))) (getD (set xs m (getD xs (c + m) 0)) (c + k) 0) (getD (set xs m (getD xs (c + m) 0)) k 0)
-        ≡ if (both v w) (getD xs (c + k) 0) (getD xs k 0)
-    go true v w e f h =
-        let z : k ≡ m = eqb-true k m e in
-        let a : v ≡ true = sym f ∙ le-leb m k (omega (arith, z)) in
-        let b : w ≡ true = sym h ∙ lt-ltb k (m + suc n) (omega (arith, z)) in
-        rw (a, b, lt-leb (suc m) k (omega (arith, z)), z) (getD-set-same xs m (getD xs (c + m) 0) 0 (omega (arith, z, l)))
-    go false true true e f h =
-        let a = leb-true m k f in
-        let b = ltb-true k (m + suc n) h in
-        let x = eqb-false k m e in
-        rw (le-leb (suc m) k (omega (arith, a, x)), lt-ltb k (suc m + n) (omega (arith, b))) (getD-set-other xs m (c + k) (getD xs (c + m) 0) 0 (λ z. omega (arith, a, x, z)))
-    go false true false e f h =
-        let b = ltb-false k (m + suc n) h in
-        rw (le-ltb k (suc m + n) (omega (arith, b)), both-false (leb (suc m) k)) (getD-set-other xs m k (getD xs (c + m) 0) 0 (eqb-false k m e))
-    go false false w e f h =
-        let a = leb-false m k f in
-        rw (lt-leb (suc m) k (omega (arith, a))) (getD-set-other xs m k (getD xs (c + m) 0) 0 (eqb-false k m e))
-
 -- the obligation places
 module _ (s : State) (xs : List ℕ) (k : ℕ) (is : s .places ≡ xs) (long : length xs ≡ roomP) (there : k < roomP) where
   pub in-places : (z : Placing) (h : Head) → getD (placesAfter z (h .cut) (h .permits) (h .denies) xs) k 0 ≡ given (inPlaces z h k) s (place k)
@@ -141,11 +101,13 @@ module _ (s : State) (xs : List ℕ) (k : ℕ) (is : s .places ≡ xs) (long : l
   in-places (FallDeny b) h = rw is refl
   in-places (FallBoth a b) h = rw is refl
   in-places (Cut c) h = rw is refl
-  in-places (Down n) h = copied n (h .cut) (h .permits) xs k (omega (arith, long, there)) ∙ go (both (leb (h .permits) k) (ltb k (h .permits + n)))
+  in-places (Down n) h = go (leb (h .permits) k) (ltb k (h .permits + n)) refl refl
     where
-      go : (b : Bool) → if b (getD xs (h .cut + k) 0) (getD xs k 0) ≡ given (if b (from (h .cut + k)) stays) s (place k)
-      go true = rw is refl
-      go false = rw is refl
+      go : (a b : Bool) → leb (h .permits) k ≡ a → ltb k (h .permits + n) ≡ b
+          → getD (copies n (h .cut) (h .permits) xs) k 0 ≡ given (if (both a b) (from (h .cut + k)) stays) s (place k)
+      go true true e f = copies-at n (h .cut) (h .permits) xs k (leb-true _ _ e) (ltb-true _ _ f) (omega (arith, long, there)) ∙ rw is refl
+      go true false e f = copies-behind n (h .cut) (h .permits) xs k (ltb-false _ _ f) ∙ rw is refl
+      go false b e f = copies-before n (h .cut) (h .permits) xs k (leb-false _ _ e) ∙ rw is refl
 
 pub by-sight : BySight
 unfolding mayStep stepOf after fetch
@@ -172,51 +134,11 @@ Modest e (Cut c) = Unit
 Modest e (Down n) = n ≤ 2
 
 modest-core : (e : Entry) (g : Bags) (h : Head) (l m : Level) (f b : Frame) → Modest e (core g h e l m f b .placing)
-unfolding core Modest Obliges
-modest-core (begin al c) g h l m f b = tt
-modest-core (match t k c s i j y) g h l m f b = tt
-modest-core further g h l m f b = tt
-modest-core (opens op) g h l m f b = tt
-modest-core (compare t n) g h l m f b = go (h .nest)
+unfolding Modest Obliges
+modest-core e g h l m f b = placing-by (λ e over z. Modest e z) h modest g e l m f b
   where
-    go : (k : ℕ) → Modest (compare t n) (tell (comparisonOf g t) n k l (h .reg) .placing)
-    go zero = tt
-    go (suc k) = tt
-modest-core (close n) g h l m f b = go (h .nest)
-  where
-    go : (k : ℕ) → Modest (close n) (closed n k l m (h .reg) .placing)
-    go zero = tt
-    go (suc zero) = tt
-    go (suc (suc k)) = tt
-modest-core (rule y n) g h l m f b = tt
-modest-core (enter al) g h l m f b = tt
-modest-core (applies n) g h l m f b = go (b .acc)
-  where
-    go : (a : Acc) → Modest (applies n) (noted a b n (h .reg) .placing)
-    go (Ranked k) = tt
-    go Nobody = tt
-    go Pending = tt
-    go Two = tt
-    go (One d) = tt
-modest-core (conclude n) g h l m f b = go (result (f .alg) (f .acc))
-  where
-    go : (d : Decision) → Modest (conclude n) (concluded d n (f .permits) (f .denies) .placing)
-    go Permit = tt
-    go Deny = tt
-    go NotApplicable = tt
-    go Indeterminate = tt
-modest-core (oblige y n) g h l m f b = go y (is (h .reg) (decisionOf y))
-  where
-    go : (e : Effect) (x : Bool) → Modest (oblige y n) (pushed e x n)
-    go e false = tt
-    go Permits true = refl
-    go Denies true = refl
-modest-core (leave n) g h l m f b = tt
-modest-core finish g h l m f b = go (both (is (h .reg) Deny) (ltb (h .permits) (h .denies)))
-  where
-    go : (x : Bool) → Modest finish (finished x h .placing)
-    go true = omega arith
-    go false = tt
+    modest : ByEntry (λ e over z. Modest e z) h
+    modest = record { rests = λ e. tt; cuts = λ a c. tt; falls = λ n p d. (tt, tt, tt); adds = λ n. (refl, refl); ends = tt; downs = λ k. omega arith }
 
 -- where the eleven stand in their list
 abbrev Touched : Sight → Place → Type 0

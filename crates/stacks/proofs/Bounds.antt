@@ -1,10 +1,13 @@
--- Laws of `specs/Machine.antt`: a stack stays within its places, and no array changes its length. Assumes nothing.
-use Prim.Native.Nat.{ℕ, zero, suc, _+_, _-_, _<_}
+-- Laws of `specs/Machine.antt`: a stack stays within its places, no array changes its length, and what places hold that were brought down. Assumes nothing.
+use Prim.Native.Nat.{ℕ, zero, suc, _+_, _-_, _≤_, _<_}
 use mathlib.Core.Path.{_≡_, refl, _∙_}
 use mathlib.Core.Bool.{Bool, true, false}
 use mathlib.Core.List.{List}
+use mathlib.Core.Logic.{⊎-elim}
+use native.Mathlib.Nat.{eq-or-lt-of-le}
 use lib.Dec.{ltb}
 use lib.ListN.{length, getD, set, length-set}
+use lib.Seq.{getD-set-same, getD-set-other}
 use native.Mathlib.Omega.{arith}
 use borrow.Author.Tests.{ltb-true}
 use Rattle.record.specs.Choose.{if}
@@ -36,10 +39,34 @@ stack-length room (swap x) k xs = length-set xs k x
 stack-length room (below x) k xs = length-set xs (k - 1) x
 stack-length room (back x) k xs = length-set xs (k - 1) x
 
-copies-length : (n c m : ℕ) (xs : List ℕ) → length (copies n c m xs) ≡ length xs
+-- n places from m on that are brought down by c
+pub copies-length : (n c m : ℕ) (xs : List ℕ) → length (copies n c m xs) ≡ length xs
 unfolding copies
 copies-length zero c m xs = refl
 copies-length (suc n) c m xs = copies-length n c (suc m) (set xs m (getD xs (c + m) 0)) ∙ length-set xs m (getD xs (c + m) 0)
+
+pub copies-before : (n c m : ℕ) (xs : List ℕ) (k : ℕ) → k < m → getD (copies n c m xs) k 0 ≡ getD xs k 0
+unfolding copies
+copies-before zero c m xs k h = refl
+copies-before (suc n) c m xs k h =
+    copies-before n c (suc m) (set xs m (getD xs (c + m) 0)) k (omega arith) ∙ getD-set-other xs m k (getD xs (c + m) 0) 0 (λ e. omega arith)
+
+pub copies-behind : (n c m : ℕ) (xs : List ℕ) (k : ℕ) → m + n ≤ k → getD (copies n c m xs) k 0 ≡ getD xs k 0
+unfolding copies
+copies-behind zero c m xs k h = refl
+copies-behind (suc n) c m xs k h =
+    copies-behind n c (suc m) (set xs m (getD xs (c + m) 0)) k (omega arith) ∙ getD-set-other xs m k (getD xs (c + m) 0) 0 (λ e. omega arith)
+
+pub copies-at : (n c m : ℕ) (xs : List ℕ) (k : ℕ) → m ≤ k → k < m + n → k < length xs → getD (copies n c m xs) k 0 ≡ getD xs (c + k) 0
+unfolding copies
+copies-at zero c m xs k h g l = absurd (omega arith)
+copies-at (suc n) c m xs k h g l =
+    ⊎-elim (λ e. rw (← e) (copies-before n c (suc m) y m (omega arith) ∙ getD-set-same xs m (getD xs (c + m) 0) 0 (omega arith)))
+    (λ e. copies-at n c (suc m) y k e (omega arith) (omega (arith, length-set xs m (getD xs (c + m) 0))) ∙ getD-set-other xs m (c + k) (getD xs (c + m) 0) 0 (λ z. omega arith))
+    (eq-or-lt-of-le h)
+  where
+    y : List ℕ
+    y = set xs m (getD xs (c + m) 0)
 
 pub places-length : (z : Placing) (c p d : ℕ) (xs : List ℕ) → length (placesAfter z c p d xs) ≡ length xs
 places-length Rest c p d xs = refl
