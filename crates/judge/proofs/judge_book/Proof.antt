@@ -2,6 +2,8 @@ use Rattle.judge.proofs.Answers.{some-ltb, none-ltb}
 use borrow.Author.Needs.{needs}
 use native.Mathlib.Omega.{arith}
 use borrow.Author.Tests.{lt-ltb, le-ltb, eq-eqb, ne-eqb}
+use Prim.Native.Nat.{_*_}
+use Rattle.record.specs.Bytes.{size, mostRecords}
 use Rattle.judge.specs.Judge.{judgeOf}
 use Rattle.judge.proofs.judge_book.Statement.{statement}
 use Rattle.judge.proofs.judge_book.Tie as tie
@@ -16,7 +18,7 @@ returns-2 c = rw (ne-eqb _ _ (c .before .before .if1 .left), some-ltb _ (c .befo
 
 returns-3 : tie.Need-returns-3
 unfolding judgeOf
-returns-3 c = rw (ne-eqb _ _ (c .before .before .before .if1 .left), none-ltb _ (c .before .before .if2 .left), lt-ltb _ _ (c .before .if3 .taken), c .too-many .ensures)
+returns-3 c = rw (ne-eqb _ _ (c .before .before .before .if1 .left), none-ltb _ (c .before .before .if2 .left), lt-ltb (mostRecords * size) _ (c .before .if3 .taken), c .too-many .ensures)
 
 judge-records-requires : tie.Need-judge-records-requires
 judge-records-requires c κs = (omega arith, omega arith)
