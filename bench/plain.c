@@ -112,15 +112,26 @@ static inline __attribute__((always_inline)) unsigned judge_record(const uint8_t
     }
 }
 
+/* The lowest number of the place rules that the record at this index breaks, whose parent is in this state, at any
+ * depth, and ends at this index. */
+static unsigned place_rule(const uint8_t *record, size_t at, unsigned state, size_t end)
+{
+    if (at == 0)
+        return 9;
+    if (at + big2(record + 2) > end)
+        return 10;
+    return judge_record(record, &state) == BROKEN_PLACE ? 11 : 12;
+}
+
 /* The refusal of a book whose first broken place is at this index: any broken field comes before. */
-static uint64_t broken_place(const uint8_t *book, size_t at, size_t records)
+static uint64_t broken_place(const uint8_t *book, size_t records, size_t at, unsigned state, size_t end)
 {
     for (size_t i = at; i < records; i++) {
-        unsigned state = FULL;
-        if (judge_record(book + i * SIZE, &state) == BROKEN_FIELD)
+        unsigned any = FULL;
+        if (judge_record(book + i * SIZE, &any) == BROKEN_FIELD)
             return refusal(5, OF_BOOK, i + 1);
     }
-    return refusal(6, OF_BOOK, at + 1);
+    return refusal(place_rule(book + at * SIZE, at, state, end), OF_BOOK, at + 1);
 }
 
 uint64_t plain_judge_book(const uint8_t *book, size_t book_len)
@@ -133,11 +144,12 @@ uint64_t plain_judge_book(const uint8_t *book, size_t book_len)
     if (records > MOST_RECORDS)
         return refusal(2, OF_BOOK, 0);
     if (big2(book + 2) != records)
-        return broken_place(book, 0, records);
+        return broken_place(book, records, 0, TOP, records);
 
-    /* The innermost open record, its end and its state; how many are open, and those around it. */
+    /* The innermost open record, its end and its state; how many are open, and those around it; the state in which
+     * the last one opened. */
     size_t end = records, ends[MOST_DEPTH], open = 0;
-    unsigned state = TOP, states[MOST_DEPTH];
+    unsigned state = TOP, states[MOST_DEPTH], opened = TOP;
     uint64_t obligations = 0;
     for (size_t i = 0; i < records; i++) {
         const uint8_t *record = book + i * SIZE;
@@ -157,13 +169,14 @@ uint64_t plain_judge_book(const uint8_t *book, size_t book_len)
         if (opens == BROKEN_FIELD)
             return refusal(5, OF_BOOK, i + 1);
         if (opens == BROKEN_PLACE || its_end > end)
-            return broken_place(book, i, records);
+            return broken_place(book, records, i, state == FULL ? opened : state, end);
         if (its_end > i + 1) {
             ends[open] = end;
             states[open] = state;
             open++;
             end = its_end;
             state = open < MOST_DEPTH ? opens : FULL;
+            opened = opens;
         }
     }
     return 256 * obligations;

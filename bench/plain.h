@@ -10,7 +10,7 @@
 #include <stdint.h>
 
 /* 256 x the number of obligation records of an accepted book, or a refusal (3, 4, 2, then the first 5, then the
- * first 6). */
+ * first of 9 to 12). */
 uint64_t plain_judge_book(const uint8_t *book, size_t book_len);
 
 /* 0 for an accepted request, or a refusal (4, 2, then the first 5). */

@@ -135,7 +135,7 @@ static void run_line(void)
     expect_bytes("1,000 lines", flat(1000), 0, 0, "030000");
     expect_bytes("1,001 lines", flat(1001), 0, 0, "FF02010000");
     expect_bytes("16 nested sets", nested(16), 0, 0, "030000");
-    expect_bytes("17 nested sets", nested(17), 0, 0, "FF06010011");
+    expect_bytes("17 nested sets", nested(17), 0, 0, "FF0C010011");
 }
 
 static void refusals(void)
@@ -147,9 +147,9 @@ static void refusals(void)
     expect_bytes("output one byte short", book_len, request_len, 3, "FF07030000");
     expect_bytes("output just long enough", book_len, request_len, 4, "0200010012");
     expect_bytes("output with an odd byte", book_len, request_len, 5, "0200010012");
-    book[1 * RECORD + 3] = 9;                               /* line 2 past the end: 6 */
-    expect_bytes("place", book_len, request_len, 4, "FF06010002");
-    book[5 * RECORD + 1] = 3;                               /* line 6: no such choice: 5, before any 6 */
+    book[1 * RECORD + 3] = 9;                               /* line 2 past the end: 10 */
+    expect_bytes("place", book_len, request_len, 4, "FF0A010002");
+    book[5 * RECORD + 1] = 3;                               /* line 6: no such choice: 5, before any place rule */
     expect_bytes("field before place", book_len, request_len, 4, "FF05010006");
     book_len = bytes_of_text(A, book, sizeof book);
     request[1] = 129;
@@ -203,6 +203,11 @@ int main(void)
     programme_of_a();
     examples("examples/a");
     examples("examples/rig");
+    examples("examples/refused/9");
+    examples("examples/refused/10");
+    examples("examples/refused/11");
+    examples("examples/refused/12");
+    examples("examples/refused/11-and-12");
     printf("%s\n", failed ? "plain C: not as document 01 says" : "plain C: ok");
     return failed;
 }

@@ -162,9 +162,35 @@ static void book_refusals(void)
     memcpy(spoilt, book_a, sizeof spoilt);
     spoilt[3 * RECORD + 4] = 5;
     expect("line 4 of category 5", first(spoilt, sizeof spoilt), empty, refused(5, 1, 4), first(left_alone, 4));
+}
+
+/* 16 sets, one in the other, and in the last a record of this kind. */
+static struct bytes nested(uint8_t *book, uint8_t kind)
+{
+    memset(book, 0, 17 * RECORD);
+    for (unsigned i = 0; i < 17; i++) {
+        book[RECORD * i] = i < 16 ? 1 : kind;
+        book[RECORD * i + 1] = 1;
+        book[RECORD * i + 3] = (uint8_t)(17 - i);
+    }
+    return first(book, 17 * RECORD);
+}
+
+/* The four place rules, and two of them at one line. */
+static void place_refusals(void)
+{
+    uint8_t spoilt[sizeof book_a], deep[17 * RECORD];
+    memcpy(spoilt, book_a, sizeof spoilt);
+    spoilt[3] = 5;
+    expect("line 1's span not the count", first(spoilt, sizeof spoilt), empty, refused(9, 1, 1), first(left_alone, 4));
     memcpy(spoilt, book_a, sizeof spoilt);
     spoilt[2 * RECORD + 3] = 5;
-    expect("line 3 past its parent's end", first(spoilt, sizeof spoilt), empty, refused(6, 1, 3), first(left_alone, 4));
+    expect("line 3 past its parent's end", first(spoilt, sizeof spoilt), empty, refused(10, 1, 3), first(left_alone, 4));
+    memcpy(spoilt, book_a, sizeof spoilt);
+    memcpy(spoilt + 5 * RECORD, book_a + RECORD, RECORD);
+    expect("a rule after an obligation", first(spoilt, sizeof spoilt), empty, refused(11, 1, 6), first(left_alone, 4));
+    expect("17 nested sets", nested(deep, 1), empty, refused(12, 1, 17), first(left_alone, 4));
+    expect("a rule in 16 nested sets", nested(deep, 3), empty, refused(11, 1, 17), first(left_alone, 4));
 }
 
 static void other_refusals(void)
@@ -186,6 +212,7 @@ int main(void)
     null_for_empty = 0;
     empty_slices();
     book_refusals();
+    place_refusals();
     other_refusals();
     printf("%s\n", failed ? "host: not as document 01 says" : "host: ok");
     return failed;

@@ -88,7 +88,7 @@ static void translating(void)
     translates("book A in none", bytes, 0, refused(7, 3, 0));
     translates("no book", 0, 0, refused(3, 1, 0));
     translates("a book cut short", bytes - 1, 0, refused(4, 1, 0));
-    translates("a book without its last record", bytes - BACHUMOI_RECORD, 0, refused(6, 1, 1));
+    translates("a book without its last record", bytes - BACHUMOI_RECORD, 0, refused(9, 1, 1));
 }
 
 static void makes_fresh(const char *what, size_t numbers_len, size_t places_len, uint64_t expected)

@@ -42,19 +42,22 @@ extern "C" {
  *                4  the length is not a multiple of 16
  *                5  a record or entry breaks a field rule: kind, choice, category, type, finite value, function of
  *                   a name, unused bytes, or a span that its kind cannot have
- *                6  a record breaks a place rule: line 1 is no policy or set, or its span is not the record count;
- *                   elsewhere a record runs past its parent's end, stands where its parent does not allow it, has
- *                   the wrong category for its section or target, or is nested deeper than 16
  *                7  out is too short
- *                (1 is for texts and 8 for programmes: this call gives neither)
+ *                9  line 1 is no policy or set, or its span is not the record count
+ *                10 a record runs past its parent's end
+ *                11 a record is not allowed at that place below its parent, or has the wrong category for its section
+ *                   or target
+ *                12 a record is nested deeper than 16
+ *                (1 is for texts and 8 for programmes: this call gives neither; 6 is given no more)
  *   bits 16-31   line, the first that breaks the rule, counting records or entries from 1; 0 with 2, 3, 4 and 7
  *   bits 32-39   part, of what:
  *                1  the book
  *                2  the request
  *                3  the output
  *
- *   The book is judged first (3, 4, 2, then the first line with 5, then the first line with 6), then the request
- *   (4, 2, then the first line with 5), then the output (7). out keeps its bytes.
+ *   The book is judged first (3, 4, 2, then the first line with 5, then the first line with 9 to 12, by the lowest
+ *   number that it deserves), then the request (4, 2, then the first line with 5), then the output (7). out keeps its
+ *   bytes.
  *
  * For example, book A of examples/a with its request for 40 gives 0x102: Deny, one obligation; an out of 4
  * bytes is then 00 12 00 00.
@@ -129,7 +132,8 @@ enum {
  *   programme   programme_len numbers, at least BACHUMOI_ROOM(book_len / 16)
  *
  * Returns 256 x the number of entries that it has put first in programme, 1 to BACHUMOI_ROOM of them; all other numbers
- * are as they were. Or a refusal, of the book (part 1), then of the output (7, part 3): programme is as it was.
+ * are as they were. Or a refusal, of the book (part 1) as bachumoi_decide gives it, then of the output (7, part 3): programme is
+ * as it was.
  */
 uint64_t bachumoi_translate(const uint8_t *book, size_t book_len, uint64_t *programme, size_t programme_len);
 

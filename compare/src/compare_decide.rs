@@ -20,7 +20,7 @@ const ROOMS: [&str; 5] = ["exact", "one longer", "longer", "one short", "none"];
 pub fn wanted() -> Wanted {
     let mut wanted = decide::wanted();
     wanted.extend([
-        (refusals_of(Part::Book), numbers([2, 3, 4, 5, 6])),
+        (refusals_of(Part::Book), numbers([2, 3, 4, 5, 9, 10, 11, 12])),
         (refusals_of(Part::Request), numbers([2, 4, 5])),
         (refusals_of(Part::Output), numbers([7])),
         ("room", words(&ROOMS)),

@@ -16,14 +16,17 @@ pub fn wanted() -> Wanted {
     let mut wanted = wanted_causes();
     wanted.extend([
         ("accepted", words(&["book", "request"])),
-        (refusals_of(Part::Book), numbers([2, 3, 4, 5, 6])),
+        (refusals_of(Part::Book), numbers([2, 3, 4, 5, 9, 10, 11, 12])),
         (refusals_of(Part::Request), numbers([2, 4, 5])),
+        (AT_LINE_1, numbers([5, 9])),
         ("depth of an accepted book", numbers(1..=16)),
         ("records of an accepted book", numbers([1, 2, 3, 998, 999, 1000])),
         ("entries of an accepted request", numbers([0, 1, 2, 63, 64])),
     ]);
     wanted
 }
+
+const AT_LINE_1: &str = "refusals at line 1";
 
 /// Judges one generated book or request.
 pub fn case(library: &dyn Judge, random: &mut Random, tally: &mut Tally) -> Result<(), Difference> {
@@ -49,10 +52,23 @@ pub fn check_book(library: &dyn Judge, bytes: &[u8], tally: &mut Tally) -> Resul
         }
         Err(refused) => {
             refused.count(tally);
+            if refused.refusal.line == 1 {
+                tally.met(AT_LINE_1, refused.refusal.number);
+            }
             refused.refusal.packed()
         }
     };
-    same("judge-book", bytes, expected, |lent| library.judge_book(lent))
+    same("judge-book", bytes, expected, |lent| library.judge_book(lent))?;
+    only_nine_at_line_1(bytes, expected)
+}
+
+/// No place rule but 9 is line 1's.
+fn only_nine_at_line_1(bytes: &[u8], answer: u64) -> Result<(), Difference> {
+    let (low, number, line) = (answer % 256, answer / 256 % 256, answer / 65_536 % 65_536);
+    if low == 255 && line == 1 && ![5, 9].contains(&number) {
+        return Err(format!("compare once judge-book {}\n line 1 gives {number}", hex(bytes)));
+    }
+    Ok(())
 }
 
 pub fn check_request(library: &dyn Judge, bytes: &[u8], tally: &mut Tally) -> Result<(), Difference> {
@@ -81,8 +97,8 @@ fn same(name: &str, bytes: &[u8], expected: u64, call: impl Fn(&[u8]) -> u64) ->
     Err(format!("compare once {name} {}\n expected {expected:#x}\n got {got:#x}", hex(bytes)))
 }
 
-/// Document 01's `Run:` line: 1,000 lines accepted, 1,001 gives 2; 16 nested sets accepted, 17 gives 6
-/// at line 17.
+/// Document 01's `Run:` line: 1,000 lines accepted, 1,001 gives 2; 16 nested sets accepted, 17 gives 12
+/// (document 02, 1) at line 17.
 pub fn check_paper(library: &dyn Judge) -> Result<(), Difference> {
     let mut random = Random::of_case(1, 1);
     for (count, number) in [(1000, 0), (1001, 2)] {
@@ -93,7 +109,7 @@ pub fn check_paper(library: &dyn Judge) -> Result<(), Difference> {
             return Err(format!(" {count} records: got {got:#x}"));
         }
     }
-    for (depth, answer) in [(16, 256 * 16), (17, 255 + 256 * 6 + 65_536 * 17 + (1 << 32))] {
+    for (depth, answer) in [(16, 256 * 16), (17, 255 + 256 * 12 + 65_536 * 17 + (1 << 32))] {
         let got = library.judge_book(&book_bytes(&books::nested_sets(&mut random, depth)));
         if got != answer {
             return Err(format!(" {depth} nested sets: expected {answer:#x}, got {got:#x}"));

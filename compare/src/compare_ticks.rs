@@ -22,7 +22,7 @@ const DEALINGS: [&str; 8] =
 pub fn wanted() -> Wanted {
     vec![
         ("translated", words(&["exact room", "more room"])),
-        (refusals_of(Part::Book), numbers([2, 3, 4, 5, 6])),
+        (refusals_of(Part::Book), numbers([2, 3, 4, 5, 9, 10, 11, 12])),
         (refusals_of(Part::Output), numbers([7])),
         ("dealing-out", words(&DEALINGS)),
         ("answer", words(&["Permit", "Deny", "NotApplicable", "Indeterminate"])),

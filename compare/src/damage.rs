@@ -16,6 +16,8 @@ pub fn book(random: &mut Random, mut records: Vec<Record>) -> Vec<u8> {
         7 => swap_siblings(random, &mut records),
         8..=9 => records = wrap(random, records),
         10 => records = as_root(random, &records),
+        11 => graft_past_end(random, &mut records),
+        12 => records = too_deep(random),
         _ => {}
     }
     for _ in 0..random.pick(&[0, 1, 1, 1, 2]) {
@@ -125,13 +127,9 @@ fn past_end(random: &mut Random, records: &mut [Record]) {
         return;
     }
     let at = random.pick(&branches);
-    let span = records[at].span();
-    let parent_end = match ancestors(records, at).last() {
-        Some(&parent) => parent + records[parent].span(),
-        None => return,
-    };
-    let needed = (parent_end + 1).saturating_sub(at).max(span + 1);
-    records[at].set_span(needed + random.pick(&[0, 0, 1, 100]));
+    if let Some(&parent) = ancestors(records, at).last() {
+        run_past(random, records, at, parent);
+    }
 }
 
 /// Another category from 1 to 4, where there is one.
@@ -211,13 +209,61 @@ fn graft(random: &mut Random, records: &mut Vec<Record>) {
     graft_kind(random, records, kind);
 }
 
-fn graft_kind(random: &mut Random, records: &mut Vec<Record>, kind: u8) {
+/// Gives the place of the new subtree, and its parent.
+fn graft_kind(random: &mut Random, records: &mut Vec<Record>, kind: u8) -> (usize, usize) {
     let branches: Vec<usize> = (0..records.len()).filter(|&at| !records[at].is_leaf()).collect();
     let parent = random.pick(&branches);
     let category = random.between(1, 4) as u8;
     let new = subtree(random, kind, category);
     let at = random.pick(&boundaries(records, parent));
     insert_under(records, parent, at, &new);
+    (at, parent)
+}
+
+/// A new subtree that also runs past its parent's end: often two rules broken at one line.
+fn graft_past_end(random: &mut Random, records: &mut Vec<Record>) {
+    let kind = random.pick(&[SET, POLICY, RULE, SECTION, SECTION, CONJUNCTION, CONDITION, CONDITION]);
+    let (at, parent) = graft_kind(random, records, kind);
+    run_past(random, records, at, parent);
+}
+
+/// The record at `at`, if it is no leaf, gets a span past the end of `parent`.
+fn run_past(random: &mut Random, records: &mut [Record], at: usize, parent: usize) {
+    if records[at].is_leaf() {
+        return;
+    }
+    let needed = parent + records[parent].span() + 1 - at;
+    records[at].set_span(needed.max(records[at].span() + 1) + random.pick(&[0, 0, 1, 100]));
+}
+
+/// A subtree of any kind at depth 17, below a sound record of any kind; sometimes it runs past that one's end.
+fn too_deep(random: &mut Random) -> Vec<Record> {
+    let logic = random.between(1, 3) as u8;
+    let category = random.between(1, 4) as u8;
+    let mut section = record(SECTION, 0);
+    section.0[4] = category;
+    let (policy, rule, conjunction) = (record(POLICY, 1), record(RULE, 1), record(CONJUNCTION, 0));
+    let inner = match random.below(6) {
+        0 => vec![],
+        1 => vec![policy],
+        2 => vec![policy, rule],
+        3 => vec![section],
+        4 => vec![section, conjunction],
+        _ => vec![policy, rule, record(CONDITION, logic)],
+    };
+    let mut records = vec![record(SET, random.between(1, 4) as u8); MOST_DEPTH - inner.len()];
+    records.extend(inner);
+    let kind = random.between(1, 8) as u8;
+    let child = if random.chance(70) { category } else { random.between(1, 4) as u8 };
+    records.extend(subtree(random, kind, child));
+    let count = records.len();
+    for above in 0..MOST_DEPTH {
+        records[above].set_span(count - above);
+    }
+    if random.chance(50) {
+        run_past(random, &mut records, MOST_DEPTH, MOST_DEPTH - 1);
+    }
+    records
 }
 
 fn drop_subtree(random: &mut Random, records: &mut Vec<Record>) {

@@ -27,7 +27,7 @@ fn judge_call(book: &[u8], request: &[u8], places: usize) -> Result<(), Refused>
     let accepted = judge::book(book)?;
     judge::request(request)?;
     if places < accepted.obligations {
-        return Err(Refused { refusal: too_short(), causes: Vec::new() });
+        return Err(Refused::without_line(too_short()));
     }
     Ok(())
 }

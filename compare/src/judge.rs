@@ -1,14 +1,18 @@
 //! Judging the record bytes of a book and the entries of a request, rule by rule.
 //!
-//! A refusal by 5 or 6 names every rule that the refused line breaks, so that a run can count the
-//! lines that break one rule alone.
+//! A refusal by 5 or by 9 to 12 names every rule that the refused line breaks, so that a run can count
+//! the lines that break one rule alone, and those that break several.
 
 use crate::record::*;
 use crate::refusal::{refuse, Part, Refusal};
-use crate::tally::{numbers, pairs, words, Item, Tally, Wanted};
+use crate::tally::{numbers, pairs, triples, words, Item, Tally, Wanted};
+use std::cmp::Ordering;
 
 /// A rule that a line breaks: a group and an item of the tally.
 pub type Cause = (&'static str, Item);
+
+/// A place rule that a line breaks, with its number.
+type Fault = (u64, Cause);
 
 #[derive(Clone, Copy, PartialEq, Eq, Debug)]
 pub struct Accepted {
@@ -21,15 +25,52 @@ pub struct Accepted {
 pub struct Refused {
     pub refusal: Refusal,
     pub causes: Vec<Cause>,
+    /// Of a book that 5 refuses: what would refuse it but for its fields.
+    pub passed_over: Option<Refusal>,
 }
 
 impl Refused {
-    /// Counts the refusal, and its cause where it has only one.
+    /// A refusal that is of no line.
+    pub fn without_line(refusal: Refusal) -> Refused {
+        Refused { refusal, causes: Vec::new(), passed_over: None }
+    }
+
+    /// Counts the refusal, and its cause where it has only one; of place rules also two or three at once.
     pub fn count(&self, tally: &mut Tally) {
         tally.met(refusals_of(self.refusal.part), self.refusal.number);
-        if let [(group, item)] = self.causes[..] {
-            tally.met(group, item);
+        match self.causes[..] {
+            [(group, item)] => tally.met(group, item),
+            [(first, _), (second, _)] if self.refusal.number >= 9 => tally.met(TWO_RULES, (first, second)),
+            [(first, _), (second, _), (third, _)] if self.refusal.number >= 9 => {
+                tally.met(THREE_RULES, (first, second, third))
+            }
+            _ => {}
         }
+        if let Some(place) = self.passed_over {
+            tally.met(PASSED_OVER, (rule_word(place.number), line_word(place.line, self.refusal.line)));
+        }
+    }
+}
+
+const TWO_RULES: &str = "two place rules at one line";
+const THREE_RULES: &str = "three place rules at one line";
+const PASSED_OVER: &str = "place rule in a book that 5 refuses";
+
+fn rule_word(number: u64) -> &'static str {
+    match number {
+        9 => "9",
+        10 => "10",
+        11 => "11",
+        _ => "12",
+    }
+}
+
+/// Where a line stands, seen from another.
+fn line_word(line: usize, from: usize) -> &'static str {
+    match line.cmp(&from) {
+        Ordering::Less => "at an earlier line",
+        Ordering::Equal => "at the same line",
+        Ordering::Greater => "at a later line",
     }
 }
 
@@ -42,17 +83,19 @@ pub fn refusals_of(part: Part) -> &'static str {
     }
 }
 
-/// Judges a book: 3, 4, 2, then the first line with 5, then the first with 6.
+/// Judges a book: 3, 4, 2, then the first line with 5, then the first with 9 to 12.
 pub fn book(bytes: &[u8]) -> Result<Accepted, Refused> {
     if bytes.is_empty() {
         return Err(no_line(3, Part::Book));
     }
     whole_lines(bytes, Part::Book, MOST_RECORDS)?;
     let records = records(bytes);
-    for (index, record) in records.iter().enumerate() {
-        line_without(field_faults(record), 5, Part::Book, index + 1)?;
+    let places = judge_places(&records);
+    if let Err(mut refused) = judge_fields(&records) {
+        refused.passed_over = places.err().map(|place| place.refusal);
+        return Err(refused);
     }
-    let depth = judge_places(&records)?;
+    let depth = places?;
     let obligations = records.iter().filter(|record| record.kind() == OBLIGATION).count();
     Ok(Accepted { records: records.len(), obligations, depth })
 }
@@ -68,7 +111,7 @@ pub fn request(bytes: &[u8]) -> Result<usize, Refused> {
 }
 
 fn no_line(number: u64, part: Part) -> Refused {
-    Refused { refusal: refuse(number, part), causes: Vec::new() }
+    Refused::without_line(refuse(number, part))
 }
 
 fn whole_lines(bytes: &[u8], part: Part, most: usize) -> Result<(), Refused> {
@@ -85,10 +128,18 @@ fn line_without(causes: Vec<Cause>, number: u64, part: Part, line: usize) -> Res
     if causes.is_empty() {
         return Ok(());
     }
-    Err(Refused { refusal: Refusal { number, part, line }, causes })
+    Err(Refused { refusal: Refusal { number, part, line }, causes, passed_over: None })
 }
 
 // Field rules
+
+/// Refuses the first line that breaks a field rule.
+fn judge_fields(records: &[Record]) -> Result<(), Refused> {
+    for (index, record) in records.iter().enumerate() {
+        line_without(field_faults(record), 5, Part::Book, index + 1)?;
+    }
+    Ok(())
+}
 
 /// The field rules that a record breaks.
 fn field_faults(record: &Record) -> Vec<Cause> {
@@ -195,9 +246,16 @@ fn entry_faults(entry: &Entry) -> Vec<Cause> {
 
 // Place rules
 
+/// Refuses a line by the lowest number of the place rules that it breaks.
+fn placed_without(faults: Vec<Fault>, line: usize) -> Result<(), Refused> {
+    let lowest = faults.iter().map(|&(number, _)| number).min().unwrap_or(0);
+    let causes = faults.into_iter().map(|(_, cause)| cause).collect();
+    line_without(causes, lowest, Part::Book, line)
+}
+
 /// Refuses the first line that breaks a place rule. Gives the depth of the deepest line.
 fn judge_places(records: &[Record]) -> Result<usize, Refused> {
-    line_without(line_1_faults(records), 6, Part::Book, 1)?;
+    placed_without(line_1_faults(records), 1)?;
     let mut depth = vec![1; records.len()];
     let mut parents = vec![0; records.len()];
     for at in 1..records.len() {
@@ -207,22 +265,22 @@ fn judge_places(records: &[Record]) -> Result<usize, Refused> {
         depth[at] = depth[parent] + 1;
         let previous = (parent + 1..at).rev().find(|&earlier| parents[earlier] == parent);
         let place = Place { records, at, parent, previous, depth: depth[at] };
-        line_without(place.faults(), 6, Part::Book, at + 1)?;
+        placed_without(place.faults(), at + 1)?;
     }
     Ok(depth.into_iter().max().unwrap_or(1))
 }
 
-fn line_1_faults(records: &[Record]) -> Vec<Cause> {
+fn line_1_faults(records: &[Record]) -> Vec<Fault> {
     let mut faults = Vec::new();
     let first = records[0];
     if first.kind() != SET && first.kind() != POLICY {
-        faults.push(("place: line 1 is a", first.name().into()));
+        faults.push((9, ("9: line 1 is a", first.name().into())));
     }
     if first.span() < records.len() {
-        faults.push(("place: span of line 1", "below the count".into()));
+        faults.push((9, ("9: span of line 1", "below the count".into())));
     }
     if first.span() > records.len() {
-        faults.push(("place: span of line 1", "above the count".into()));
+        faults.push((9, ("9: span of line 1", "above the count".into())));
     }
     faults
 }
@@ -237,17 +295,17 @@ struct Place<'a> {
 }
 
 impl Place<'_> {
-    fn faults(&self) -> Vec<Cause> {
+    fn faults(&self) -> Vec<Fault> {
         let record = self.records[self.at];
         let name = record.name();
         let mut faults = Vec::new();
         if self.at + record.span() > self.parent + self.records[self.parent].span() {
-            faults.push(("place: past the parent's end", name.into()));
+            faults.push((10, ("10: past the parent's end", name.into())));
         }
-        faults.extend(self.not_allowed());
-        faults.extend(self.wrong_category());
+        faults.extend(self.not_allowed().map(|cause| (11, cause)));
+        faults.extend(self.wrong_category().map(|cause| (11, cause)));
         if self.depth > MOST_DEPTH {
-            faults.push(("place: too deep", name.into()));
+            faults.push((12, ("12: too deep", name.into())));
         }
         faults
     }
@@ -267,19 +325,19 @@ impl Place<'_> {
             _ => None,
         };
         let place = match order(&record) {
-            None => return Some(("place: not under its parent", (name, parent.name()).into())),
+            None => return Some(("11: not under its parent", (name, parent.name()).into())),
             Some(place) => place,
         };
         let place_before = previous.and_then(|earlier| order(&earlier)).unwrap_or(0);
         if place < place_before {
-            return Some(("place: after a later one", (name, before).into()));
+            return Some(("11: after a later one", (name, before).into()));
         }
         if parent.kind() == RULE && place == 2 && place_before == 2 {
-            return Some(("place: second", "condition of a rule".into()));
+            return Some(("11: second", "condition of a rule".into()));
         }
         let of_not = parent.kind() == CONDITION && parent.choice() == NOT;
         if of_not && previous.is_some() {
-            return Some(("place: second", "part of not".into()));
+            return Some(("11: second", "part of not".into()));
         }
         None
     }
@@ -292,13 +350,13 @@ impl Place<'_> {
         match (record.kind(), earlier) {
             (SECTION, Some(earlier)) if earlier.kind() == SECTION && earlier.category() >= record.category() => {
                 let how = if earlier.category() == record.category() { "same" } else { "lower" };
-                Some(("place: category of a section after one", how.into()))
+                Some(("11: category of a section after one", how.into()))
             }
             (MATCH, _) if parent.kind() == CONJUNCTION => {
                 let section = (0..self.parent).rev().find(|&line| line + self.records[line].span() > self.at);
                 let section = self.records[section.expect("a conjunction has a section")];
                 let differs = section.category() != record.category();
-                differs.then(|| ("place: category of a match", "not its section's".into()))
+                differs.then(|| ("11: category of a match", "not its section's".into()))
             }
             _ => None,
         }
@@ -325,39 +383,51 @@ pub fn wanted_causes() -> Wanted {
         ("field: unused byte of an obligation", numbers((4..6).chain(8..16))),
         ("field: unused byte of an entry", numbers(4..8)),
         (
-            "place: line 1 is a",
+            "9: line 1 is a",
             words(&["rule", "section", "conjunction", "match", "condition", "comparison", "obligation"]),
         ),
-        ("place: span of line 1", words(&["below the count", "above the count"])),
-        ("place: past the parent's end", words(&["set", "policy", "rule", "section", "conjunction", "condition"])),
+        ("9: span of line 1", words(&["below the count", "above the count"])),
+        ("10: past the parent's end", words(&["set", "policy", "rule", "section", "conjunction", "condition"])),
         (
-            "place: after a later one",
+            "11: after a later one",
             pairs(&["section"], &["set", "policy", "rule", "condition", "comparison", "obligation"]),
         ),
-        ("place: after a later one", pairs(&["set", "policy", "rule"], &["obligation"])),
-        ("place: second", words(&["condition of a rule", "part of not"])),
-        ("place: category of a section after one", words(&["same", "lower"])),
-        ("place: category of a match", words(&["not its section's"])),
-        ("place: too deep", words(&all)),
+        ("11: after a later one", pairs(&["set", "policy", "rule"], &["obligation"])),
+        ("11: second", words(&["condition of a rule", "part of not"])),
+        ("11: category of a section after one", words(&["same", "lower"])),
+        ("11: category of a match", words(&["not its section's"])),
+        ("12: too deep", words(&all)),
         (
-            "place: not under its parent",
+            "11: not under its parent",
             pairs(&["set", "policy"], &["policy", "rule", "section", "conjunction", "condition"]),
         ),
-        ("place: not under its parent", pairs(&["rule"], &["set", "rule", "section", "conjunction", "condition"])),
-        ("place: not under its parent", pairs(&["section"], &["section", "conjunction", "condition"])),
-        (
-            "place: not under its parent",
-            pairs(&["conjunction"], &["set", "policy", "rule", "conjunction", "condition"]),
-        ),
-        ("place: not under its parent", pairs(&["match"], &["set", "policy", "rule", "section", "condition"])),
-        (
-            "place: not under its parent",
-            pairs(&["condition", "comparison"], &["set", "policy", "section", "conjunction"]),
-        ),
-        ("place: not under its parent", pairs(&["obligation"], &["rule", "section", "conjunction", "condition"])),
+        ("11: not under its parent", pairs(&["rule"], &["set", "rule", "section", "conjunction", "condition"])),
+        ("11: not under its parent", pairs(&["section"], &["section", "conjunction", "condition"])),
+        ("11: not under its parent", pairs(&["conjunction"], &["set", "policy", "rule", "conjunction", "condition"])),
+        ("11: not under its parent", pairs(&["match"], &["set", "policy", "rule", "section", "condition"])),
+        ("11: not under its parent", pairs(&["condition", "comparison"], &["set", "policy", "section", "conjunction"])),
+        ("11: not under its parent", pairs(&["obligation"], &["rule", "section", "conjunction", "condition"])),
     ];
     for name in ["set", "policy", "rule", "conjunction", "condition"] {
         wanted.push((unused_group(name), numbers(4..16)));
     }
+    wanted.extend(wanted_together());
     wanted
+}
+
+/// The faults that can stand at one line, of those that refuse a book by a place rule: a match has span 1, so it ends
+/// where its parent does or before; what stands after another child is as deep as that child, which is refused first.
+fn wanted_together() -> Wanted {
+    let past = ["10: past the parent's end"];
+    let after_another = ["11: after a later one", "11: second", "11: category of a section after one"];
+    let deep = ["12: too deep"];
+    vec![
+        (TWO_RULES, pairs(&["9: line 1 is a"], &["9: span of line 1"])),
+        (TWO_RULES, pairs(&past, &after_another)),
+        (TWO_RULES, pairs(&past, &["11: not under its parent", "12: too deep"])),
+        (TWO_RULES, pairs(&["11: not under its parent", "11: category of a match"], &deep)),
+        (THREE_RULES, triples(&past, &["11: not under its parent"], &deep)),
+        (PASSED_OVER, pairs(&["9"], &["at an earlier line", "at the same line"])),
+        (PASSED_OVER, pairs(&["10", "11", "12"], &["at an earlier line", "at the same line", "at a later line"])),
+    ]
 }

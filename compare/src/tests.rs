@@ -13,7 +13,7 @@ use crate::judge;
 use crate::paper;
 use crate::random::Random;
 use crate::record::*;
-use crate::refusal::{refuse, too_short, Part};
+use crate::refusal::{refuse, too_short, Part, Refusal};
 use crate::rig::unpack;
 use crate::run::{compare, Cases};
 use crate::subject::{Field, Host, Judge, Rig, Texts, Tick, TickAnswer};
@@ -60,9 +60,26 @@ fn refusals_of_record_bytes_come_in_order() {
     assert_eq!(number(&[0; 16_016]), 2);
     let mut book = bytes_of(Part::Book, paper::A);
     book[3] = 5; // line 1 breaks a place rule
-    assert_eq!(judge::book(&book).unwrap_err().refusal.packed(), 255 + 256 * 6 + 65_536 + (1 << 32));
+    assert_eq!(judge::book(&book).unwrap_err().refusal.packed(), 255 + 256 * 9 + 65_536 + (1 << 32));
     book[5 * 16] = 9; // and line 6 a field rule
     assert_eq!(judge::book(&book).unwrap_err().refusal.packed(), 255 + 256 * 5 + 65_536 * 6 + (1 << 32));
+}
+
+#[test]
+fn two_place_rules_at_one_line_give_the_lower() {
+    let refusal = |records: &[Record]| {
+        let Refusal { number, line, .. } = judge::book(&book_bytes(records)).unwrap_err().refusal;
+        (number, line)
+    };
+    let mut records = books::nested_sets(&mut Random::of_case(3, 1), 17);
+    assert_eq!(refusal(&records), (12, 17));
+    records[16].0[..2].copy_from_slice(&[RULE, PERMIT]); // in a set
+    assert_eq!(refusal(&records), (11, 17));
+    records[16].set_span(2);
+    assert_eq!(refusal(&records), (10, 17));
+    records[0].0[..2].copy_from_slice(&[RULE, PERMIT]);
+    records[0].set_span(18);
+    assert_eq!(refusal(&records), (9, 1));
 }
 
 #[test]
@@ -231,8 +248,10 @@ enum Plan {
     OneBeforeTwo,
     WrittenBeforeJudged,
     LastLineFeedNotAsked,
-    SixBeforeFive,
+    NineBeforeFive,
     DepthNotJudged,
+    DepthBeforePlace,
+    NineBelowLine1,
     CountWrong,
     OddByteKept,
     OrderOfObligations,
@@ -274,18 +293,7 @@ impl Judge for Model {
     fn judge_book(&self, book: &[u8]) -> u64 {
         match judge::book(book) {
             Ok(accepted) => 256 * accepted.records as u64 + 16_777_216 * accepted.obligations as u64,
-            Err(refused)
-                if self.0 == Plan::SixBeforeFive && refused.refusal.number == 5 && book[3] == 1 && book.len() > 16 =>
-            {
-                255 + 256 * 6 + 65_536 + (1 << 32)
-            }
-            Err(refused)
-                if self.0 == Plan::DepthNotJudged
-                    && refused.causes.iter().any(|cause| cause.0 == "place: too deep") =>
-            {
-                0
-            }
-            Err(refused) => refused.refusal.packed(),
+            Err(refused) => self.refused_book(book, refused),
         }
     }
 
@@ -384,6 +392,21 @@ impl First {
 }
 
 impl Model {
+    fn refused_book(&self, book: &[u8], refused: judge::Refused) -> u64 {
+        let Refusal { number, line, .. } = refused.refusal;
+        let deep = refused.causes.iter().any(|cause| cause.0 == "12: too deep");
+        let planted = |number| Refusal { number, ..refused.refusal }.packed();
+        match self.0 {
+            Plan::NineBeforeFive if number == 5 && line > 1 && book[3] == 1 && book.len() > 16 => {
+                Refusal { number: 9, part: Part::Book, line: 1 }.packed()
+            }
+            Plan::DepthNotJudged if deep => 0,
+            Plan::DepthBeforePlace if deep && number == 11 => planted(12),
+            Plan::NineBelowLine1 if number == 10 => planted(9),
+            _ => refused.refusal.packed(),
+        }
+    }
+
     fn run(&self, programme: &[u64], request: &[u8], state: &mut [u64], budget: u64, out: &mut [u16]) -> Tick {
         let before = state.to_vec();
         let book: Vec<u8> = programme[1..].iter().flat_map(|entry| entry.to_be_bytes()).collect();
@@ -495,7 +518,9 @@ fn text_comparison() {
 #[test]
 fn judge_comparison() {
     assert!(judge_agrees(Plan::Right, 100_000));
-    for plan in [Plan::SixBeforeFive, Plan::DepthNotJudged, Plan::CountWrong] {
+    let planted =
+        [Plan::NineBeforeFive, Plan::DepthNotJudged, Plan::DepthBeforePlace, Plan::NineBelowLine1, Plan::CountWrong];
+    for plan in planted {
         assert!(!judge_agrees(plan, 5_000), "{plan:?}");
     }
 }

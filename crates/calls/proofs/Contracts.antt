@@ -2,7 +2,7 @@
 -- arguments of a call, x its number, and s the lent slices after it. Assumes nothing.
 use Prim.Native.Nat.{_/_}
 use mathlib.Core.Path.{_≡_, refl}
-use lib.ListN.{take}
+use lib.ListN.{length, take}
 use contract.Lifetimes.{Lfts}
 use borrow.Fn.Kinds.{Dens, resT, endedOf}
 use denote.Triple.Clauses.{AtExit}
@@ -11,7 +11,8 @@ use Rattle.demand.specs.Demand.{Turn}
 use Rattle.host.specs.Host.{hostNumber, hostOutcome, hostOut}
 use Rattle.host.proofs.bachumoi_decide.Kinds as decide-kinds
 use Rattle.host.proofs.bachumoi_decide.Reads as decide-reads
-use Rattle.rig.specs.Rig.{Call, call, freshCall}
+use Rattle.translator.specs.Translate.{translateOf, leaves}
+use Rattle.rig.specs.Rig.{Call, call, freshCall, translatedNumber}
 use Rattle.rig.proofs.bachumoi_translate.Kinds as translate-kinds
 use Rattle.rig.proofs.bachumoi_translate.Reads as translate-reads
 use Rattle.rig.proofs.bachumoi_fresh.Kinds as fresh-kinds
@@ -27,10 +28,15 @@ module _ (κs : Lfts 3) (a : Dens κs decide-kinds.ps) (x : resT decide-kinds.r 
       × (now (s .1 .1 .0) ≡ hostOut (now (a .0)) (now (a .1 .0)) (now (a .1 .1 .0)))
   decide-says p = p
 
--- bachumoi_translate(book, programme): its number counts the entries that a loop is to lend
+-- bachumoi_translate(book, programme): its number counts the entries that a loop is to lend, or says the refusal
 module _ (κs : Lfts 2) (a : Dens κs translate-kinds.ps) (x : resT translate-kinds.r κs .Denot) (s : AtExit (endedOf 2 translate-kinds.ps translate-kinds.r) κs) where
   pub translate-says : translate-reads.Post κs a x s → take (x / 256) (now (s .1 .0)) ≡ programmeIn (now (a .0)) (now (a .1 .0))
   translate-says p = rw (p .0, p .1) refl
+
+  pub translate-tells : translate-reads.Post κs a x s
+      → (x ≡ translatedNumber (translateOf (now (a .0)) (length (now (a .1 .0)))))
+      × (now (s .1 .0) ≡ leaves (translateOf (now (a .0)) (length (now (a .1 .0)))) (now (a .0)) (now (a .1 .0)))
+  translate-tells p = p
 
 -- bachumoi_fresh(numbers, places)
 module _ (κs : Lfts 2) (a : Dens κs fresh-kinds.ps) (x : resT fresh-kinds.r κs .Denot) (s : AtExit (endedOf 2 fresh-kinds.ps fresh-kinds.r) κs) where

@@ -26,7 +26,10 @@ small b r (book.empty er e) = rw er (record { number = omega arith; part = omega
 small b r (book.cut er e) = rw er (record { number = omega arith; part = omega arith; line = omega arith })
 small b r (book.many er e l) = rw er (record { number = omega arith; part = omega arith; line = omega arith })
 small b r (book.field n i er s w) = rw er (record { number = omega arith; part = omega arith; line = omega (arith, s .most, w .inside) })
-small b r (book.place n i er s k w) = rw er (record { number = omega arith; part = omega arith; line = omega (arith, s .most, w .inside) })
+small b r (book.top n er k t) = rw er (record { number = omega arith; part = omega arith; line = omega arith })
+small b r (book.past n i er k h l) = rw er (record { number = omega arith; part = omega arith; line = omega (arith, k .sized .most, k .inside) })
+small b r (book.misplaced n i er k h w x) = rw er (record { number = omega arith; part = omega arith; line = omega (arith, k .sized .most, k .inside) })
+small b r (book.deep n i er k h w a l) = rw er (record { number = omega arith; part = omega arith; line = omega (arith, k .sized .most, k .inside) })
 
 pub refused-small : (b : List ℕ) (r : Refusal) → judgeOf b ≡ of-book.Refused r → Small r mostRecords
 refused-small b r e = small b r (refused-breaks b r e)

@@ -8,18 +8,19 @@ use lib.Dec.{ltb, eqb}
 use lib.ListN.{length}
 use borrow.Author.Tests.{lt-ltb, le-ltb, ltb-true, ltb-false, eq-eqb, ne-eqb, eqb-true, eqb-false}
 use Rattle.record.specs.Bytes.{size, mostRecords}
-use Rattle.record.specs.Refusals.{book, noRecord, cutShort, tooMany, badField}
+use Rattle.record.specs.Refusals.{book, noRecord, cutShort, tooMany, badField, badPlace}
 use Rattle.record.specs.declared.Refusal.{Refusal}
 use Rattle.fields.specs.First.{firstFrom}
 use Rattle.fields.specs.Fields.{fieldOk, obligationsOf}
 use Rattle.fields.proofs.First.{by, first-before, first-fails, first-is, first-reach}
 use Rattle.placement.specs.Place.{placeOk, brokenAt}
-use Rattle.judge.specs.Judge.{firstField, firstPlace, placeRefusal, judgeRecords, judgeOf}
+use Rattle.judge.specs.Judge.{firstField, firstPlace, judgeRecords, judgeOf}
 use Rattle.placement.specs.Keeps.{AllKeep, FirstToBreak, Sized, Keeps}
-use Rattle.judge.specs.Exactly.{Breaks, empty, cut, many, field, place, AcceptedKeeps, KeptIsAccepted, RefusedBreaks, BrokenIsRefused}
+use Rattle.judge.specs.Exactly.{KeptTo, Breaks, empty, cut, many, field, top, past, misplaced, deep, AcceptedKeeps, KeptIsAccepted, RefusedBreaks, BrokenIsRefused}
 use Rattle.judge.specs.declared.Judged.{Judged}
 use Rattle.judge.specs.declared.Judged.the-variants.{Accepted, Refused}
 use Rattle.judge.proofs.Answers.{some-ltb, none-ltb}
+use Rattle.judge.proofs.Broken.{nine, ten, eleven, twelve, broken-breaks}
 
 absurd-judged : {A : Type 0} {n m : ℕ} {r : Refusal} → Accepted n m ≡ Refused r → A
 absurd-judged e = let z : _≡_ {A = ℕ} 0 1 = cc in absurd (omega arith)
@@ -50,8 +51,9 @@ records-answer b n s =
     (λ t. let l = ltb-true (firstField b n) n t in refused (badField book (firstField b n + 1)) (rw t) (field n (firstField b n) refl s (first-break (fieldOk b) n l)))
     (λ t. let k = all-keep (fieldOk b) n (ltb-false (firstField b n) n t) in
     by (ltb (firstPlace b n) n)
-    (λ u. let l = ltb-true (firstPlace b n) n u in
-    refused (placeRefusal (brokenAt b (firstPlace b n)) (firstPlace b n + 1)) (rw (t, u)) (place n (firstPlace b n) refl s k (first-break (placeOk b) n l)))
+    (λ u. let i : ℕ = firstPlace b n in
+    let w = first-break (placeOk b) n (ltb-true i n u) in
+    refused (badPlace (brokenAt b i) (i + 1)) (rw (t, u)) (broken-breaks b (record { sized = s; fields = k; inside = w .inside; before = w .before }) (w .breaks)))
     (λ u. accepted n (rw (t, u)) (record { sized = s; fields = k; places = all-keep (placeOk b) n (ltb-false (firstPlace b n) n u) })))
 
 answer : (b : List ℕ) → Answer b (judgeOf b)
@@ -104,6 +106,13 @@ kept-is-accepted b n k =
     sized-judged b n (k .sized)
     ∙ rw (le-ltb (firstField b n) n (first-reach (fieldOk b) n (k .fields)), le-ltb (firstPlace b n) n (first-reach (placeOk b) n (k .places)))
 
+-- the first line that breaks a place rule, by the rule's number
+place-refused : (b : List ℕ) {r : Refusal} {n i rule : ℕ} → r ≡ badPlace rule (i + 1) → KeptTo b n i → brokenAt b i ≡ rule → 0 < rule → judgeOf b ≡ Refused r
+unfolding judgeRecords placeOk
+place-refused b {r} {n} {i} er k e h =
+    let w : FirstToBreak (placeOk b) n i = record { inside = k .inside; breaks = ne-eqb (brokenAt b i) 0 (λ z. omega arith); before = k .before } in
+    sized-judged b n (k .sized) ∙ rw (er, le-ltb (firstField b n) n (first-reach (fieldOk b) n (k .fields)), break-first (placeOk b) n i w, lt-ltb i n (k .inside), e)
+
 pub broken-is-refused : BrokenIsRefused
 unfolding judgeOf judgeRecords
 broken-is-refused b r (empty er e) = rw (er, eq-eqb (length b) 0 e)
@@ -111,5 +120,7 @@ broken-is-refused b r (cut er e) = rw (er, ne-eqb (length b) 0 (λ x. e (omega a
 broken-is-refused b r (many er e l) = rw (er, ne-eqb (length b) 0 (λ x. omega arith), none-ltb (length b % size) e, lt-ltb (mostRecords * size) (length b) l)
 broken-is-refused b r (field n i er s w) =
     sized-judged b n s ∙ rw (er, break-first (fieldOk b) n i w, lt-ltb i n (w .inside))
-broken-is-refused b r (place n i er s k w) =
-    sized-judged b n s ∙ rw (er, le-ltb (firstField b n) n (first-reach (fieldOk b) n k), break-first (placeOk b) n i w, lt-ltb i n (w .inside))
+broken-is-refused b r (top n er k t) = place-refused b er k (nine b t) (omega arith)
+broken-is-refused b r (past n i er k h l) = place-refused b er k (ten b k h l) (omega arith)
+broken-is-refused b r (misplaced n i er k h w x) = place-refused b er k (eleven b k h w x) (omega arith)
+broken-is-refused b r (deep n i er k h w a l) = place-refused b er k (twelve b k h w a l) (omega arith)

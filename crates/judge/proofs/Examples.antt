@@ -1,7 +1,7 @@
 -- Books and requests judged by computation. Assumes nothing.
 use mathlib.Core.Path.{_≡_, refl}
 use mathlib.Core.List.{List, [], _∷_}
-use Prim.Native.Nat.{ℕ, zero, suc, _*_}
+use Prim.Native.Nat.{ℕ, zero, suc, _+_, _*_}
 use lib.ListN.{set}
 use Rattle.record.specs.Bytes.{size, spanOf, bigOf}
 use Rattle.record.specs.Refusals.{book, request, noRecord, cutShort, badField, badPlace}
@@ -12,7 +12,7 @@ use Rattle.fields.specs.First.{countBelow, lastBelow, firstFrom}
 use Rattle.fields.specs.Fields.{kindOf, kindAt, typeOf, typeAt, finite, zeros, plainOk, sectionOk, comparesOk, obligationOk, fieldOk, obligationsOf}
 use Rattle.fields.specs.Entries.{entryOk}
 use Rattle.placement.specs.Place.{endOf, parentOf, elderOf, depthOf, holdsConditions, singleOf, rankAt, elderRank, standsOk, childRule, childBroken, topOk, brokenAt, placeOk}
-use Rattle.judge.specs.Judge.{judgeRecords, judgeOf, placeRule}
+use Rattle.judge.specs.Judge.{judgeRecords, judgeOf}
 use Rattle.judge.specs.Request.{judgeEntries, judgeRequestOf}
 use Rattle.judge.specs.declared.Judged.{Judged}
 use Rattle.judge.specs.declared.Judged.the-variants.{Accepted, Refused}
@@ -28,8 +28,8 @@ unfoldable pub nested : ℕ → List ℕ
 nested zero = []
 nested (suc n) = 1 ∷ 1 ∷ 0 ∷ suc n ∷ 0 ∷ 0 ∷ 0 ∷ 0 ∷ 0 ∷ 0 ∷ 0 ∷ 0 ∷ 0 ∷ 0 ∷ 0 ∷ 0 ∷ nested n
 
--- book A; nothing; one byte too many; greater of a name; an obligation's unused byte; a span past the parent's end; line 1's span, and with a
--- field rule on a later line; 16 and 17 nested sets
+-- book A; nothing; one byte too many; greater of a name; an obligation's unused byte; line 1's span, and with a field rule on a later line; a span past the
+-- parent's end; a rule after an obligation; 16 and 17 nested sets, and in the place of the last a rule, then one that runs past its parent's end
 judged : List Judged
 judged =
     judgeOf a
@@ -37,11 +37,14 @@ judged =
     ∷ judgeOf (0 ∷ a)
     ∷ judgeOf (set a 53 2)
     ∷ judgeOf (set a 85 1)
-    ∷ judgeOf (set a 19 6)
     ∷ judgeOf (set a 3 5)
     ∷ judgeOf (set (set a 3 5) 83 2)
+    ∷ judgeOf (set a 19 6)
+    ∷ judgeOf (set (set a 80 3) 87 0)
     ∷ judgeOf (nested 16)
-    ∷ judgeOf (nested 17) ∷ []
+    ∷ judgeOf (nested 17)
+    ∷ judgeOf (set (nested 17) (16 * size) 3)
+    ∷ judgeOf (set (set (nested 17) (16 * size) 3) (16 * size + 3) 2) ∷ []
 
 computed : judged
     ≡ Accepted 6 2
@@ -49,29 +52,16 @@ computed : judged
     ∷ Refused (cutShort book)
     ∷ Refused (badField book 4)
     ∷ Refused (badField book 6)
-    ∷ Refused (badPlace 2)
-    ∷ Refused (badPlace 1)
+    ∷ Refused (badPlace 9 1)
     ∷ Refused (badField book 6)
+    ∷ Refused (badPlace 10 2)
+    ∷ Refused (badPlace 11 6)
     ∷ Accepted 16 0
-    ∷ Refused (badPlace 17) ∷ []
+    ∷ Refused (badPlace 12 17)
+    ∷ Refused (badPlace 11 17)
+    ∷ Refused (badPlace 10 17) ∷ []
 unfolding a bytes lines bookA nested judged judgeOf judgeRecords spanOf allBelow countBelow lastBelow firstFrom kindOf kindAt typeOf typeAt finite bigOf finiteOf zeros plainOk sectionOk comparesOk obligationOk fieldOk obligationsOf endOf parentOf elderOf depthOf holdsConditions singleOf rankAt elderRank standsOk childRule childBroken topOk brokenAt placeOk
 computed = refl
-
--- the place rules: book A; greater of a name; a span past the parent's end; line 1's span; a rule after an obligation; 17 nested sets; a rule in the place of the
--- last of them, which stands wrongly before it is too deep
-rules : List ℕ
-rules =
-    placeRule a
-    ∷ placeRule (set a 53 2)
-    ∷ placeRule (set a 19 6)
-    ∷ placeRule (set a 3 5)
-    ∷ placeRule (set (set a 80 3) 87 0)
-    ∷ placeRule (nested 17)
-    ∷ placeRule (set (nested 17) (16 * size) 3) ∷ []
-
-computed-rules : rules ≡ 0 ∷ 0 ∷ 10 ∷ 9 ∷ 11 ∷ 12 ∷ 11 ∷ []
-unfolding a bytes lines bookA nested judgeOf judgeRecords spanOf allBelow countBelow lastBelow firstFrom kindOf kindAt typeOf typeAt finite zeros plainOk sectionOk comparesOk obligationOk fieldOk obligationsOf endOf parentOf elderOf depthOf holdsConditions singleOf rankAt elderRank standsOk childRule childBroken topOk brokenAt placeOk rules placeRule
-computed-rules = refl
 
 -- the request of document 01's printed example
 forty : List ℕ

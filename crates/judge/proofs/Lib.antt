@@ -1,9 +1,9 @@
 pub mod Answers
 pub mod Bounds
+pub mod Broken
 pub mod Depth
 pub mod Exactly
 pub mod ExactlyRequest
 pub mod Examples
-pub mod Found
 pub mod Sound
 pub mod Unique

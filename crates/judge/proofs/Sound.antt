@@ -20,9 +20,9 @@ use Rattle.fields.specs.declared.Kind.{Kind}
 use Rattle.fields.specs.declared.Kind.the-variants.{PolicySet, Policy, Rule, Section, Conjunction, Match, Logic, Not, Comparison, Obligation, Nothing}
 use Rattle.fields.proofs.First.{by, last-ge, last-of}
 use Rattle.fields.proofs.Spans.{span-pos, category-pos}
-use Rattle.placement.specs.Place.{endOf, covers, parentOf, depthOf, kindNumber, singleOf, elderOf, elderRank, rankOf, rankAt, riseOf, underOk, standsOk, childBroken, topOk, brokenAt, placeOk}
+use Rattle.placement.specs.Place.{endOf, covers, parentOf, depthOf, kindNumber, singleOf, elderOf, elderRank, rankOf, rankAt, riseOf, underOk, standsAt, childBroken, topOk, brokenAt, placeOk}
 use Rattle.placement.specs.Keeps.{AllKeep, Sized, Keeps}
-use Rattle.judge.specs.Sound.{Nested, WholeRow, KeptNests, OneTree, stated, NoCut, DepthIs, AfterAll, OkIsPlaced, PlacedIsOk, KeptInOrder}
+use Rattle.judge.specs.Sound.{Nested, WholeRow, KeptNests, OneTree, stated, NoCut, DepthIs, AfterAll, Allowed, OkIsPlaced, PlacedIsOk, KeptInOrder}
 use Rattle.placement.proofs.Laws.{depth-under, ends-within, parent-ge, parent-of, kept-at, stands-parts, all-but, rule-zero}
 
 -- line 1 is a policy set or a policy, and covers all
@@ -134,9 +134,9 @@ depth-is-next b n w i h l =
 abbrev AfterElder : List ℕ → ℕ → Type 0
 AfterElder b i = elderRank b (parentOf b i) (elderOf b (parentOf b i) i) + riseOf (kindNumber (kindAt b (parentOf b i))) (kindAt b i) ≤ rankAt b i
 
-after-elder : (b : List ℕ) (i : ℕ) → 0 < i → placeOk b i ≡ true → AfterElder b i
+after-elder : (b : List ℕ) (i : ℕ) → standsAt b (parentOf b i) i ≡ true → AfterElder b i
 unfolding rankAt
-after-elder b i h e = stands-parts _ (kindAt b i) _ _ _ (kept-at b i h e .1) .1
+after-elder b i e = stands-parts _ (kindAt b i) _ _ _ e .1
 
 elder-test : List ℕ → ℕ → ℕ → Bool
 elder-test b p j = either (eqb j p) (eqb (parentOf b j) p)
@@ -165,13 +165,13 @@ module _ (b : List ℕ) (n : ℕ) (s : Sized b n) where
       let y : rankAt b q + riseOf (kindNumber (kindAt b p)) (kindAt b i) ≤ rankAt b i = rw (ne-eqb q p v) at x in
       ⊎-elim (λ (t : j ≡ q). omega (arith, y, ap (rankAt b) t))
       (λ (t : j < q).
-      let g = after-elder b q (omega arith) (ok q (w .1)) in
+      let g = after-elder b q (kept-at b q (omega arith) (ok q (w .1)) .1) in
       omega (arith, y, after-allF f q (omega (arith, w .1)) (omega (arith, w .1)) (λ m c. ok m (omega (arith, w .1))) g j a t (e ∙ sym (w .2 v))))
       (eq-or-lt-of-le (w .0))
 
 pub kept-in-order : KeptInOrder
 kept-in-order b n k i z =
-    λ j a l e. after-allF b n (k .sized) (suc i) i (omega arith) z (λ m c. k .places m (omega arith)) (after-elder b i (omega arith) (k .places i z)) j a l e
+    λ j a l e. after-allF b n (k .sized) (suc i) i (omega arith) z (λ m c. k .places m (omega arith)) (after-elder b i (kept-at b i (omega arith) (k .places i z) .1)) j a l e
 
 -- the first child of all: nothing stands before it
 single-le : (p : ℕ) → singleOf p ≤ 5
@@ -204,18 +204,19 @@ under-is Comparison g c h = refl
 under-is Obligation g c h = refl
 under-is Nothing g c h = refl
 
-pub ok-is-placed : OkIsPlaced
-ok-is-placed b n i s h l ok e =
-    let w = kept-at b i h e in
+-- where all earlier lines keep the place rules, the parent's test says that a record is allowed
+pub stands-allowed : (b : List ℕ) (n i : ℕ) → Sized b n → i < n → AllKeep (placeOk b) i → standsAt b (parentOf b i) i ≡ true → Allowed b i
+stands-allowed b n i s l ok e =
     let p : ℕ = parentOf b i in
-    let v = stands-parts (kindNumber (kindAt b p)) (kindAt b i) (byteOf b i 4) (elderRank b p (elderOf b p i)) (byteOf b (parentOf b p) 4) (w .1) in
+    let v = stands-parts (kindNumber (kindAt b p)) (kindAt b i) (byteOf b i 4) (elderRank b p (elderOf b p i)) (byteOf b (parentOf b p) 4) e in
     record {
-      within = w .0;
       taken = v .0;
-      after = after-allF b n s (suc i) i (omega arith) l ok (after-elder b i h e);
+      after = after-allF b n s (suc i) i (omega arith) l ok (after-elder b i e);
       category = λ q. eqb-true (byteOf b (parentOf b p) 4) (byteOf b i 4) (rw q at (v .2));
-      depth = w .2;
     }
+
+pub ok-is-placed : OkIsPlaced
+ok-is-placed b n i s h l ok e = let w = kept-at b i h e in record { within = w .0; allowed = stands-allowed b n i s l ok (w .1); depth = w .2 }
 
 -- a record that stands after all earlier children stands after the child before it
 after-one : (b : List ℕ) (n i : ℕ) → Sized b n → 0 < i → i < n → AllKeep (placeOk b) i → fieldOk b i ≡ true → AfterAll b i → AfterElder b i
@@ -229,14 +230,20 @@ after-one b n i s h l ok f w =
     (λ t. rw t (omega (arith, step-le (kindNumber (kindAt b p)) (byteOf b i 4) (kindAt b i) (category-pos b i f))))
     (λ t. let g : q ≡ p → ⊥ = eqb-false q p t in rw t (w q (omega (arith, v .0)) (v .1) (v .2 g)))
 
-pub placed-is-ok : PlacedIsOk
-unfolding placeOk brokenAt childBroken rankAt
-placed-is-ok b n i s h l ok f w =
+pub allowed-stands : (b : List ℕ) (n i : ℕ) → Sized b n → 0 < i → i < n → AllKeep (placeOk b) i → fieldOk b i ≡ true → Allowed b i
+    → standsAt b (parentOf b i) i ≡ true
+unfolding rankAt
+allowed-stands b n i s h l ok f w =
     let p : ℕ = parentOf b i in
     let e : ℕ = elderRank b p (elderOf b p i) in
     let g : ℕ = byteOf b (parentOf b p) 4 in
     let c : ℕ = byteOf b i 4 in
     let x = after-one b n i s h l ok f (w .after) in
-    let y : standsOk (kindNumber (kindAt b p)) (kindAt b i) c e g ≡ true =
-    sym (all-but (kindNumber (kindAt b p)) (kindAt b i) c e g refl (w .taken) refl refl x refl) ∙ under-is (kindAt b i) g c (w .category) in
+    sym (all-but (kindNumber (kindAt b p)) (kindAt b i) c e g refl (w .taken) refl refl x refl) ∙ under-is (kindAt b i) g c (w .category)
+
+pub placed-is-ok : PlacedIsOk
+unfolding placeOk brokenAt childBroken
+placed-is-ok b n i s h l ok f w =
+    let p : ℕ = parentOf b i in
+    let y = allowed-stands b n i s h l ok f (w .allowed) in
     rw (ne-eqb i 0 (λ z. omega arith), rule-zero (endOf b i) (endOf b p) (depthOf b i) _ (w .within) y (w .depth))

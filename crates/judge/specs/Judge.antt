@@ -1,12 +1,11 @@
--- What a book's record bytes are judged: 3, 4, 2, the first line with 5, the first line with 6. Assumes nothing.
-use Prim.Native.Nat.{ℕ, _+_, _-_, _*_, _/_, _%_}
+-- What a book's record bytes are judged: 3, 4, 2, the first line with 5, the first line with 9 to 12. Assumes nothing.
+use Prim.Native.Nat.{ℕ, _+_, _*_, _/_, _%_}
 use mathlib.Core.List.{List}
 use lib.Dec.{eqb, ltb}
 use lib.ListN.{length}
 use Rattle.record.specs.Choose.{if}
 use Rattle.record.specs.Bytes.{size, mostRecords}
 use Rattle.record.specs.Refusals.{book, noRecord, cutShort, tooMany, badField, badPlace}
-use Rattle.record.specs.declared.Refusal.{Refusal}
 use Rattle.fields.specs.First.{firstFrom}
 use Rattle.fields.specs.Fields.{fieldOk, obligationsOf}
 use Rattle.placement.specs.Place.{placeOk, brokenAt}
@@ -20,15 +19,11 @@ firstField b n = firstFrom (fieldOk b) 0 n
 abbrev pub firstPlace : List ℕ → ℕ → ℕ
 firstPlace b n = firstFrom (placeOk b) 0 n
 
--- the refusal of a line that breaks a place rule: 6, whichever it breaks
-abbrev pub placeRefusal : ℕ → ℕ → Refusal
-placeRefusal rule line = badPlace line
-
 -- n records
 unfoldable pub judgeRecords : List ℕ → ℕ → Judged
 judgeRecords b n =
     if (ltb (firstField b n) n) (Refused (badField book (firstField b n + 1)))
-    (if (ltb (firstPlace b n) n) (Refused (placeRefusal (brokenAt b (firstPlace b n)) (firstPlace b n + 1)))
+    (if (ltb (firstPlace b n) n) (Refused (badPlace (brokenAt b (firstPlace b n)) (firstPlace b n + 1)))
     (Accepted n (obligationsOf b n)))
 
 unfoldable pub judgeOf : List ℕ → Judged
@@ -37,11 +32,3 @@ judgeOf b =
     (if (ltb 0 (length b % size)) (Refused (cutShort book))
     (if (ltb (mostRecords * size) (length b)) (Refused (tooMany book))
     (judgeRecords b (length b / size))))
-
--- the place rule, 9 to 12, that the refused line breaks; 0 where the book is not refused for a place rule, which is by 6
-abbrev pub ruleIn : List ℕ → Judged → ℕ
-ruleIn b (Accepted n k) = 0
-ruleIn b (Refused r) = if (eqb (r .number) 6) (brokenAt b (r .line - 1)) 0
-
-unfoldable pub placeRule : List ℕ → ℕ
-placeRule b = ruleIn b (judgeOf b)

@@ -48,13 +48,16 @@ AfterAll b i =
     (j : ℕ) → 0 < j → j < i → parentOf b j ≡ parentOf b i
     → rankAt b j + riseOf (kindNumber (kindAt b (parentOf b i))) (kindAt b i) ≤ rankAt b i
 
--- a record below line 1 that stands where it may: it ends where its parent does or before, its parent allows it, it stands after the earlier children, a match
--- has the category of its section, and it is not too deep
-pub record Placed (b : List ℕ) (i : ℕ) : Type 0 where
-  pub within : endOf b i ≤ endOf b (parentOf b i)
+-- record i is allowed at its place: its parent takes such a record, it stands after the earlier children, and a match has the category of its section
+pub record Allowed (b : List ℕ) (i : ℕ) : Type 0 where
   pub taken : takesOf (kindNumber (kindAt b (parentOf b i))) (kindAt b i) ≡ true
   pub after : AfterAll b i
   pub category : kindAt b i ≡ Match → byteOf b (parentOf b (parentOf b i)) 4 ≡ byteOf b i 4
+
+-- a record below line 1 that stands where it may: it ends where its parent does or before, is allowed at its place, and is not too deep
+pub record Placed (b : List ℕ) (i : ℕ) : Type 0 where
+  pub within : endOf b i ≤ endOf b (parentOf b i)
+  pub allowed : Allowed b i
   pub depth : depthOf b i ≤ mostDepth
 
 -- where all earlier lines keep the place rules, a line keeps them exactly when it is placed: the child before speaks for all earlier children

@@ -4,11 +4,8 @@ ghost use mathlib.Core.Path.{_≡_};
 ghost use Prim.Native.Nat.{_*_, _<_};
 ghost use lib.ListN.{length};
 ghost use Rattle.record.specs.Bytes.{size};
-ghost use Rattle.judge.specs.Judge.{placeRefusal, judgeRecords, judgeOf, placeRule};
+ghost use Rattle.judge.specs.Judge.{judgeRecords, judgeOf};
 ghost use Rattle.judge.specs.Request.{judgeRequestOf};
-
-// The number of the refusal for a place rule.
-const BAD_PLACE: u8 = 6;
 
 pub enum Judged {
     Accepted { records: usize, obligations: usize },
@@ -18,13 +15,6 @@ pub enum Judged {
 pub enum JudgedRequest {
     Accepted { entries: usize },
     Refused(Refusal),
-}
-
-// The refusal of a line that breaks a place rule.
-fn place_refusal(rule: usize, line: usize) -> Refusal
-    ensures { λ r. ⌜ r ≡ placeRefusal rule line ⌝ }
-{
-    record::bad_place(line)
 }
 
 // The n records of a book of the right size, line by line.
@@ -40,7 +30,7 @@ fn judge_lines(book: &[u8], n: usize) -> Judged
     let found = placement::first_place(book, n);
     let place = found.at;
     if place < n {
-        return Judged::Refused(place_refusal(found.rule, place + 1));
+        return Judged::Refused(record::bad_place(found.rule, place + 1));
     }
     let obligations = kept.obligations;
     Judged::Accepted {
@@ -78,25 +68,6 @@ pub fn judge_book(book: &[u8]) -> Judged
         return Judged::Refused(record::too_many(1));
     }
     judge_records(book, book.len() / record::SIZE)
-}
-
-// The place rule, 9 to 12, that the refused line breaks; 0 where the book is not refused for a place rule.
-pub fn place_rule(book: &[u8]) -> usize
-    ensures { λ r. ⌜ r ≡ placeRule (now (book .entry)) ⌝ }
-{
-    match judge_book(book) {
-        Judged::Accepted {
-            records: _,
-            obligations: _,
-        } => 0,
-        Judged::Refused(refusal) => {
-            if refusal.number != BAD_PLACE {
-                return 0;
-            }
-            let found = placement::first_place(book, book.len() / record::SIZE);
-            found.rule
-        }
-    }
 }
 
 // A request's record bytes: accepted, with the number of entries, or the first refusal.

@@ -17,7 +17,7 @@ use Rattle.fields.specs.Fields.{kindAt, fieldOk}
 use Rattle.fields.specs.declared.Kind.{Kind}
 use Rattle.fields.proofs.First.{by, last-is, last-ge, last-of, count-skip, count-one, count-same, first-none, first-here, first-next, first-le, first-past, first-in, first-all}
 use Rattle.fields.proofs.Spans.{span-pos}
-use Rattle.placement.specs.Place.{mostDepth, endOf, covers, parentOf, elderOf, depthOf, kindNumber, takesOf, riseOf, underOk, rankOf, rankAt, elderRank, standsOk, childRule, childBroken, topOk, brokenAt, placeOk, ParentIs}
+use Rattle.placement.specs.Place.{mostDepth, endOf, covers, parentOf, elderOf, depthOf, kindNumber, takesOf, riseOf, underOk, rankOf, rankAt, elderRank, standsOk, standsAt, childRule, childBroken, topOk, brokenAt, placeOk, ParentIs}
 use Rattle.placement.specs.Walk.{Walk, Finds}
 
 pub span-end : (b : List ℕ) (i s : ℕ) → s ≡ spanOf b i → endOf b i ≡ i + s
@@ -131,7 +131,7 @@ rule-zero end top d t h e g = rw (le-leb end top h, e, le-leb d mostDepth g)
 -- what a record that keeps the rules says of its parent
 pub kept-at : (b : List ℕ) (j : ℕ) → 0 < j → placeOk b j ≡ true
     → (endOf b j ≤ endOf b (parentOf b j))
-    × (standsOk (kindNumber (kindAt b (parentOf b j))) (kindAt b j) (byteOf b j 4) (elderRank b (parentOf b j) (elderOf b (parentOf b j) j)) (byteOf b (parentOf b (parentOf b j)) 4) ≡ true)
+    × (standsAt b (parentOf b j) j ≡ true)
     × (depthOf b j ≤ mostDepth)
 unfolding placeOk brokenAt childBroken
 kept-at b j h e =

@@ -1,5 +1,5 @@
--- The place rules, record by record (refusal 6), in the order of document 01: line 1, the parent's end, what the parent allows at that place, the category
--- of a section or match, the depth. Assumes nothing.
+-- The place rules, record by record, by the numbers of document 02, 1: 9 of line 1, 10 of the parent's end, 11 of what the parent allows at that place and of
+-- the category of a section or match, 12 of the depth. Assumes nothing.
 use Prim.Native.Nat.{ℕ, _+_, _/_, _≤_, _<_}
 use mathlib.Core.Path.{_≡_}
 use mathlib.Core.Bool.{Bool, true, false}
@@ -126,14 +126,16 @@ underOk Nothing g c = true
 unfoldable pub standsOk : ℕ → Kind → ℕ → ℕ → ℕ → Bool
 standsOk p k c e g = both (takesOf p k) (both (leb (e + riseOf p k) (rankOf k c)) (underOk k g c))
 
--- the first rule that a child breaks: 10 it runs past its parent's end, 11 it may not stand there, 12 it is too deep; 0 none
+-- may record i stand below p, its parent?
+abbrev pub standsAt : List ℕ → ℕ → ℕ → Bool
+standsAt b p i = standsOk (kindNumber (kindAt b p)) (kindAt b i) (byteOf b i 4) (elderRank b p (elderOf b p i)) (byteOf b (parentOf b p) 4)
+
+-- the lowest rule that a child breaks: 10 it runs past its parent's end, 11 it may not stand there, 12 it is too deep; 0 none
 unfoldable pub childRule : ℕ → ℕ → ℕ → Bool → ℕ
 childRule end top depth stands = if (leb end top) (if stands (if (leb depth mostDepth) 0 12) 11) 10
 
 unfoldable pub childBroken : List ℕ → ℕ → ℕ → ℕ
-childBroken b p i =
-    childRule (endOf b i) (endOf b p) (depthOf b i)
-    (standsOk (kindNumber (kindAt b p)) (kindAt b i) (byteOf b i 4) (elderRank b p (elderOf b p i)) (byteOf b (parentOf b p) 4))
+childBroken b p i = childRule (endOf b i) (endOf b p) (depthOf b i) (standsAt b p i)
 
 -- line 1 is a policy set or a policy, and its span is the record count
 unfoldable pub topOk : List ℕ → Bool

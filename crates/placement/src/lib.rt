@@ -3,7 +3,7 @@ use fields::Kind;
 ghost use mathlib.Core.Path.{_≡_};
 ghost use Prim.Native.Nat.{_+_, _*_, _-_, _<_, _≤_};
 ghost use lib.ListN.{length};
-ghost use Rattle.record.specs.Choose.{among};
+ghost use Rattle.record.specs.Choose.{if, among};
 ghost use Rattle.record.specs.Bytes.{size};
 ghost use Rattle.fields.specs.First.{firstFrom};
 ghost use Rattle.fields.specs.Fields.{fieldOk};
@@ -159,26 +159,29 @@ fn stands(parent: usize, k: Kind, c: usize, before: usize, outer: usize) -> bool
     under_ok(k, outer, c)
 }
 
-// The rule that a child breaks which ends at `end`, `top` being its parent's end and `depth` its parent's depth; 0 for none.
-fn child_rule(end: usize, top: usize, depth: usize, ok: bool) -> usize
+// The one number or the other.
+fn choose(c: bool, yes: u8, no: u8) -> u8
+    ensures { λ r. ⌜ r ≡ if c yes no ⌝ }
+{
+    if c {
+        return yes;
+    }
+    no
+}
+
+// The lowest number of the rules that a child breaks which ends at `end`, `top` being its parent's end and `depth` its parent's depth; 0 for none.
+fn child_rule(end: usize, top: usize, depth: usize, ok: bool) -> u8
     ensures { λ r. ⌜ r ≡ childRule end top (depth + 1) ok ⌝ }
 {
-    if top < end {
-        return 10;
-    }
-    if !ok {
-        return 11;
-    }
-    if MOST_DEPTH <= depth {
-        return 12;
-    }
-    0
+    let deep = choose(depth < MOST_DEPTH, 0, 12);
+    let wrong = choose(ok, deep, 11);
+    choose(end <= top, wrong, 10)
 }
 
 // A record that breaks a place rule, and which.
 pub struct Broken {
     pub at: usize,
-    pub rule: usize,
+    pub rule: u8,
 }
 
 // The first of the records after `parent` and below `top` that breaks a place rule, and which; `top` and 0 where none does. They are the parent's

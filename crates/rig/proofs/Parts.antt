@@ -10,7 +10,7 @@ use Rattle.run.specs.declared.kinds.Answer.the-variants.{Running, Finished, Ref
 use Rattle.rig.specs.Rig.{finishedNumber, answered, tickCall}
 use Rattle.rig.specs.Parts.{lowByte, LowByte, RunningParts, FinishedParts}
 
-small : (d : Decision) → numberOf d < 5
+pub small : (d : Decision) → numberOf d < 5
 small Permit = omega arith
 small Deny = omega arith
 small NotApplicable = omega arith

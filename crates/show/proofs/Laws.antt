@@ -15,7 +15,7 @@ use Rattle.fields.specs.First.{countBelow, lastBelow, firstFrom}
 use Rattle.fields.proofs.First.{count-more, first-none, first-here, first-next}
 use Rattle.placement.specs.Place.{endOf, covers, depthOf, parentOf}
 use Rattle.judge.specs.Judge.{judgeOf}
-use Rattle.judge.specs.Exactly.{Breaks, empty, cut, many, field, place}
+use Rattle.judge.specs.Exactly.{Breaks, empty, cut, many, field, top, past, misplaced, deep}
 use Rattle.judge.specs.declared.Judged.the-variants.{Refused}
 use Rattle.judge.proofs.Exactly.{refused-breaks}
 use Rattle.show.specs.Phrase.{barAt, fewer, noBar, startOf, stopOf, phraseOf}
@@ -103,4 +103,7 @@ refused-inside b {r} e = go (refused-breaks b r e)
     go (cut er l) = rw er (omega arith)
     go (many er l m) = rw er (omega arith)
     go (field n i er s w) = rw er (omega (arith, s .bytes, w .inside))
-    go (place n i er s k w) = rw er (omega (arith, s .bytes, w .inside))
+    go (top n er k t) = rw er (omega (arith, k .sized .bytes, k .inside))
+    go (past n i er k h l) = rw er (omega (arith, k .sized .bytes, k .inside))
+    go (misplaced n i er k h w x) = rw er (omega (arith, k .sized .bytes, k .inside))
+    go (deep n i er k h w a l) = rw er (omega (arith, k .sized .bytes, k .inside))

@@ -138,10 +138,10 @@ childFault p Comparison = conditionFault p
 childFault p Obligation = notTaken
 childFault p Nothing = notTaken
 
--- record i, by the place rule that it breaks; 0 stands for a field rule
+-- record i, by the number that refuses it: 5, or 9 to 12
 unfoldable pub faultOf : List ℕ → ℕ → ℕ → ℕ
-faultOf b i rule =
-    if (eqb rule 0) (fieldFault b i (kindAt b i))
-    (if (eqb rule 9) (if (ltb 2 (byteOf b i 0)) noTop notAll)
-    (if (eqb rule 10) pastEnd
-    (if (eqb rule 11) (childFault (byteOf b (parentOf b i) 0) (kindAt b i)) tooDeep)))
+faultOf b i number =
+    if (eqb number 5) (fieldFault b i (kindAt b i))
+    (if (eqb number 9) (if (ltb 2 (byteOf b i 0)) noTop notAll)
+    (if (eqb number 10) pastEnd
+    (if (eqb number 11) (childFault (byteOf b (parentOf b i) 0) (kindAt b i)) tooDeep)))

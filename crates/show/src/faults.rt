@@ -1,5 +1,5 @@
-// What is wrong with a refused record: the field rule that it breaks, or how it breaks the place rule that the judgement found. A fault is the number
-// of its phrase, so that the prover walks one call for all of them.
+// What is wrong with a refused record: the field rule that it breaks, or how it breaks the place rule that the refusal's number says. A fault is the
+// number of its phrase, so that the prover walks one call for all of them.
 use crate::lines::Line;
 use crate::nesting::parent;
 use crate::numbers::choose;
@@ -197,23 +197,23 @@ fn child_fault(p: usize, k: Kind) -> usize
     }
 }
 
-// The fault of record i, by the place rule that it breaks: 9 is line 1's, 10 is the parent's end, 11 is what the parent allows, 12 is the depth; 0 stands
-// for a field rule.
-pub fn fault(book: &[u8], i: usize, rule: usize) -> usize
+// The fault of record i, by the number that refuses it: 5 is a field rule, 9 is line 1's, 10 is the parent's end, 11 is what the parent allows, 12 is the
+// depth.
+pub fn fault(book: &[u8], i: usize, number: u8) -> usize
     requires { ⌜ (i + 1) * size ≤ length (now book) ⌝ }
-    ensures { λ r. ⌜ r ≡ faultOf (now (book .entry)) i rule ⌝ }
+    ensures { λ r. ⌜ r ≡ faultOf (now (book .entry)) i number ⌝ }
 {
     let k = fields::kind_at(book, i);
-    if rule == 0 {
+    if number == 5 {
         return field_fault(book, i, k);
     }
-    if rule == 9 {
+    if number == 9 {
         return choose(2 < record::byte(book, i, 0), NO_TOP, NOT_ALL);
     }
-    if rule == 10 {
+    if number == 10 {
         return PAST_END;
     }
-    if rule == 11 {
+    if number == 11 {
         return child_fault(record::byte(book, parent(book, i), 0), k);
     }
     TOO_DEEP

@@ -29,12 +29,12 @@ fn refused(line: usize, number: u8) -> Line
         .words(b": ")
 }
 
-// The line of record i's parent, which rules 10 to 12 speak of.
-fn below(book: &[u8], i: usize, rule: usize, l: Line) -> Line
+// The line of record i's parent, which 10 to 12 speak of.
+fn below(book: &[u8], i: usize, number: u8, l: Line) -> Line
     requires { ⌜ ((i + 1) * size ≤ length (now book)) × Inside l ⌝ }
     ensures { λ r. ⌜ Inside r ⌝ }
 {
-    if rule < 10 {
+    if number < 10 {
         return l;
     }
     l.words(b"below line ")
@@ -42,7 +42,7 @@ fn below(book: &[u8], i: usize, rule: usize, l: Line) -> Line
         .words(b": ")
 }
 
-// The line that says why a text is no book, or why bytes are no records, by the refusal's number; 5 and 6 are of a record, and `rule_line` says them.
+// The line that says why a text is no book, or why bytes are no records, by the refusal's number; 5 and 9 to 12 are of a record, and `rule_line` says them.
 pub fn refusal_line(refusal: Refusal) -> Line
     ensures { λ r. ⌜ Inside r ⌝ }
 {
@@ -59,12 +59,11 @@ pub fn refusal_line(refusal: Refusal) -> Line
     l.put(b'\n')
 }
 
-// The line that says why record i is refused: the place rule that the judgement found, or, where it found none, a field rule.
+// The line that says why record i is refused, by the refusal's number: a field rule or a place rule.
 pub fn rule_line(book: &[u8], i: usize, number: u8) -> Line
     requires { ⌜ (i + 1) * size ≤ length (now book) ⌝ }
     ensures { λ r. ⌜ Inside r ⌝ }
 {
-    let rule = judge::place_rule(book);
-    let l = below(book, i, rule, refused(i + 1, number));
-    fault_words(fault(book, i, rule), l).put(b'\n')
+    let l = below(book, i, number, refused(i + 1, number));
+    fault_words(fault(book, i, number), l).put(b'\n')
 }

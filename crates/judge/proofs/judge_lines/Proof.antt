@@ -20,12 +20,14 @@ returns c = rw (← c .before .before .first-field .ensures .0, lt-ltb _ _ (c .b
 first-place-requires : tie.Need-first-place-requires
 first-place-requires c κs = (c .before .before .before .pre .0, c .before .before .before .pre .1, sym (c .before .first-field .ensures .0) ∙ omega arith)
 
-add-place-refusal : tie.Need-add-place-refusal
-add-place-refusal c = omega arith
+add-bad-place : tie.Need-add-bad-place
+add-bad-place c = omega arith
 
 returns-2 : tie.Need-returns-2
 unfolding judgeRecords
-returns-2 c = rw (← c .before .before .before .before .first-field .ensures .0, le-ltb _ _ (c .before .before .before .if1 .left), ← c .before .before .first-place .ensures .place, lt-ltb _ _ (c .before .if2 .taken), c .place-refusal .ensures)
+returns-2 c =
+    let found = c .before .before in
+    rw (← found .before .before .first-field .ensures .0, le-ltb _ _ (found .before .if1 .left), ← found .first-place .ensures .place, lt-ltb _ _ (c .before .if2 .taken), c .bad-place .ensures, found .first-place .ensures .which (omega arith))
 
 returns-3 : tie.Need-returns-3
 unfolding judgeRecords
@@ -40,7 +42,7 @@ judge-lines-spec =
     (λ c κs. search needs)
     returns
     first-place-requires
-    add-place-refusal
+    add-bad-place
     (λ c κs. search needs)
     returns-2
     returns-3)

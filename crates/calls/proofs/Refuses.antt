@@ -1,0 +1,81 @@
+-- The claims of specs/Refuses.antt. Assumes nothing.
+use Prim.Native.Nat.{ℕ, _/_, _<_}
+use mathlib.Core.Path.{_≡_, refl, sym, ap, _∙_}
+use mathlib.Core.Bool.{Bool, true, false}
+use mathlib.Core.List.{List}
+use lib.Dec.{ltb}
+use lib.ListN.{length}
+use native.Mathlib.Omega.{arith}
+use Rattle.record.specs.Choose.{if}
+use Rattle.record.specs.Bytes.{mostRecords}
+use Rattle.record.specs.Refusals.{book, request, refusal, noRoom, refusalNumber}
+use Rattle.record.specs.declared.Refusal.{Refusal}
+use Rattle.meaning.specs.declared.Decision.{Decision}
+use Rattle.judge.specs.Judge.{judgeOf}
+use Rattle.judge.specs.Request.{judgeRequestOf}
+use Rattle.judge.specs.Exactly.{Breaks}
+use Rattle.judge.specs.ExactlyRequest.{BreaksRequest, cut, many, field}
+use Rattle.judge.specs.declared.Judged.{Judged}
+use Rattle.judge.specs.declared.Judged.the-variants as of-book
+use Rattle.judge.specs.declared.JudgedRequest.{JudgedRequest}
+use Rattle.judge.specs.declared.JudgedRequest.the-variants as of-request
+use Rattle.judge.proofs.Bounds.{Small, refused-small}
+use Rattle.judge.proofs.Exactly.{refused-breaks, broken-is-refused}
+use Rattle.judge.proofs.ExactlyRequest.{refused-request-breaks}
+use Rattle.decider.specs.Outcome.{inOrder, outcomeOf}
+use Rattle.decider.specs.declared.Outcome.the-variants.{Decided, Refused}
+use Rattle.host.specs.Host.{hostNumber, hostOutcome, hostOut}
+use Rattle.translator.specs.Translate.{programmeOf, answerTo, translateOf, roomFor}
+use Rattle.translator.specs.declared.Translated.the-variants as translated
+use Rattle.rig.specs.Rig.{translatedNumber}
+use Rattle.rig.proofs.Parts.{small}
+use Rattle.calls.specs.Refuses.{BrokenIsTold, ToldIsBroken}
+
+pub broken-is-told : BrokenIsTold
+unfolding hostOutcome hostOut outcomeOf translateOf
+broken-is-told b r w =
+    let e = broken-is-refused b r w in
+    (λ q out. (rw e refl, rw e refl), λ buffer. (rw e refl, rw e refl))
+
+-- a refusal is known by its number
+same : (r : Refusal) {number line : ℕ} → Small r mostRecords → number < 256 → line < 65536
+    → refusalNumber r ≡ refusalNumber (refusal number book line) → r ≡ refusal number book line
+same r {number} {line} s h l e =
+    let z : r .part ≡ book = omega (arith, s .number, s .line, e) in
+    let y : r .line ≡ line = omega (arith, s .number, e, z) in
+    let x : r .number ≡ number = omega (arith, e, z, y) in
+    ap (λ (k : ℕ). refusal k (r .part) (r .line)) x ∙ ap (λ (k : ℕ). refusal number k (r .line)) z ∙ ap (λ (k : ℕ). refusal number book k) y
+
+-- what is refused beside the book is of another part
+request-part : {q : List ℕ} {r : Refusal} → BreaksRequest q r → r .part ≡ request
+request-part (cut er e) = rw er refl
+request-part (many er e l) = rw er refl
+request-part (field n i er s w) = rw er refl
+
+module _ (b : List ℕ) {number line : ℕ} (h : number < 256) (l : line < 65536) where
+  book-told : {r : Refusal} → judgeOf b ≡ of-book.Refused r → refusalNumber r ≡ refusalNumber (refusal number book line) → Breaks b (refusal number book line)
+  book-told {r} e t = rw (same r (refused-small b r e) h l t) at (refused-breaks b r e)
+
+  host-told : (q : List ℕ) (x : Judged) (y : JudgedRequest) (room : ℕ) (d : Decision) (n : ℕ) → judgeOf b ≡ x → judgeRequestOf q ≡ y
+      → hostNumber (inOrder x y room (Decided d n)) ≡ refusalNumber (refusal number book line) → Breaks b (refusal number book line)
+  host-told q (of-book.Refused r) y room d n e f t = book-told e t
+  host-told q (of-book.Accepted m k) (of-request.Refused r) room d n e f t = let p = request-part (refused-request-breaks q r f) in absurd (omega (arith, p, t))
+  host-told q (of-book.Accepted m k) (of-request.Accepted o) room d n e f t = go (ltb room k) t
+    where
+      go : (u : Bool) → hostNumber (if u (Refused noRoom) (Decided d n)) ≡ refusalNumber (refusal number book line) → Breaks b (refusal number book line)
+      go true v = absurd (omega (arith, v))
+      go false v = absurd (omega (arith, v, small d))
+
+  rig-told : (x : Judged) (room : ℕ) → judgeOf b ≡ x → translatedNumber (answerTo x b room) ≡ refusalNumber (refusal number book line) → Breaks b (refusal number book line)
+  rig-told (of-book.Refused r) room e t = book-told e t
+  rig-told (of-book.Accepted m k) room e t = go (ltb room (roomFor m)) t
+    where
+      go : (u : Bool) → translatedNumber (if u (translated.Refused noRoom) (translated.Entries (length (programmeOf b)))) ≡ refusalNumber (refusal number book line)
+          → Breaks b (refusal number book line)
+      go true v = absurd (omega (arith, v))
+      go false v = absurd (omega (arith, v))
+
+pub told-is-broken : ToldIsBroken
+unfolding hostOutcome outcomeOf translateOf
+told-is-broken b number line h l =
+    (λ q out t. host-told b h l q (judgeOf b) (judgeRequestOf q) (length out / 2) _ _ refl refl t, λ buffer t. rig-told b h l (judgeOf b) (length buffer) refl t)
