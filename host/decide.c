@@ -185,7 +185,8 @@ static void place_refusals(void)
     expect("line 1's span not the count", first(spoilt, sizeof spoilt), empty, refused(9, 1, 1), first(left_alone, 4));
     memcpy(spoilt, book_a, sizeof spoilt);
     spoilt[2 * RECORD + 3] = 5;
-    expect("line 3 past its parent's end", first(spoilt, sizeof spoilt), empty, refused(10, 1, 3), first(left_alone, 4));
+    expect("line 3 past its parent's end", first(spoilt, sizeof spoilt), empty, refused(10, 1, 3),
+           first(left_alone, 4));
     memcpy(spoilt, book_a, sizeof spoilt);
     memcpy(spoilt + 5 * RECORD, book_a + RECORD, RECORD);
     expect("a rule after an obligation", first(spoilt, sizeof spoilt), empty, refused(11, 1, 6), first(left_alone, 4));

@@ -132,8 +132,8 @@ enum {
  *   programme   programme_len numbers, at least BACHUMOI_ROOM(book_len / 16)
  *
  * Returns 256 x the number of entries that it has put first in programme, 1 to BACHUMOI_ROOM of them; all other numbers
- * are as they were. Or a refusal, of the book (part 1) as bachumoi_decide gives it, then of the output (7, part 3): programme is
- * as it was.
+ * are as they were. Or a refusal, of the book (part 1, as bachumoi_decide gives it), then of the output (7, part 3):
+ * programme is as it was.
  */
 uint64_t bachumoi_translate(const uint8_t *book, size_t book_len, uint64_t *programme, size_t programme_len);
 

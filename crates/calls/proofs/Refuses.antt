@@ -1,6 +1,6 @@
 -- The claims of specs/Refuses.antt. Assumes nothing.
-use Prim.Native.Nat.{ℕ, _/_, _<_}
-use mathlib.Core.Path.{_≡_, refl, sym, ap, _∙_}
+use Prim.Native.Nat.{ℕ, _/_}
+use mathlib.Core.Path.{_≡_, refl, ap, _∙_}
 use mathlib.Core.Bool.{Bool, true, false}
 use mathlib.Core.List.{List}
 use lib.Dec.{ltb}
@@ -8,7 +8,7 @@ use lib.ListN.{length}
 use native.Mathlib.Omega.{arith}
 use Rattle.record.specs.Choose.{if}
 use Rattle.record.specs.Bytes.{mostRecords}
-use Rattle.record.specs.Refusals.{book, request, refusal, noRoom, refusalNumber}
+use Rattle.record.specs.Refusals.{request, refusal, noRoom, refusalNumber}
 use Rattle.record.specs.declared.Refusal.{Refusal}
 use Rattle.meaning.specs.declared.Decision.{Decision}
 use Rattle.judge.specs.Judge.{judgeOf}
@@ -29,7 +29,7 @@ use Rattle.translator.specs.Translate.{programmeOf, answerTo, translateOf, room
 use Rattle.translator.specs.declared.Translated.the-variants as translated
 use Rattle.rig.specs.Rig.{translatedNumber}
 use Rattle.rig.proofs.Parts.{small}
-use Rattle.calls.specs.Refuses.{BrokenIsTold, ToldIsBroken}
+use Rattle.calls.specs.Refuses.{BrokenIsTold, OfBook, ToldIsBroken}
 
 pub broken-is-told : BrokenIsTold
 unfolding hostOutcome hostOut outcomeOf translateOf
@@ -37,14 +37,13 @@ broken-is-told b r w =
     let e = broken-is-refused b r w in
     (λ q out. (rw e refl, rw e refl), λ buffer. (rw e refl, rw e refl))
 
--- a refusal is known by its number
-same : (r : Refusal) {number line : ℕ} → Small r mostRecords → number < 256 → line < 65536
-    → refusalNumber r ≡ refusalNumber (refusal number book line) → r ≡ refusal number book line
-same r {number} {line} s h l e =
-    let z : r .part ≡ book = omega (arith, s .number, s .line, e) in
-    let y : r .line ≡ line = omega (arith, s .number, e, z) in
-    let x : r .number ≡ number = omega (arith, e, z, y) in
-    ap (λ (k : ℕ). refusal k (r .part) (r .line)) x ∙ ap (λ (k : ℕ). refusal number k (r .line)) z ∙ ap (λ (k : ℕ). refusal number book k) y
+-- a refusal of the book is known by its number
+same : (r t : Refusal) → Small r mostRecords → OfBook t → refusalNumber r ≡ refusalNumber t → r ≡ t
+same r t s o e =
+    let z : r .part ≡ t .part = omega (arith, s .number, s .line, o .part, o .number, o .line, e) in
+    let y : r .line ≡ t .line = omega (arith, s .number, o .number, e, z) in
+    let x : r .number ≡ t .number = omega (arith, e, z, y) in
+    ap (λ (k : ℕ). refusal k (r .part) (r .line)) x ∙ ap (λ (k : ℕ). refusal (t .number) k (r .line)) z ∙ ap (λ (k : ℕ). refusal (t .number) (t .part) k) y
 
 -- what is refused beside the book is of another part
 request-part : {q : List ℕ} {r : Refusal} → BreaksRequest q r → r .part ≡ request
@@ -52,30 +51,30 @@ request-part (cut er e) = rw er refl
 request-part (many er e l) = rw er refl
 request-part (field n i er s w) = rw er refl
 
-module _ (b : List ℕ) {number line : ℕ} (h : number < 256) (l : line < 65536) where
-  book-told : {r : Refusal} → judgeOf b ≡ of-book.Refused r → refusalNumber r ≡ refusalNumber (refusal number book line) → Breaks b (refusal number book line)
-  book-told {r} e t = rw (same r (refused-small b r e) h l t) at (refused-breaks b r e)
+module _ (b : List ℕ) (t : Refusal) (o : OfBook t) where
+  book-told : {r : Refusal} → judgeOf b ≡ of-book.Refused r → refusalNumber r ≡ refusalNumber t → Breaks b t
+  book-told {r} e v = rw (same r t (refused-small b r e) o v) at (refused-breaks b r e)
 
   host-told : (q : List ℕ) (x : Judged) (y : JudgedRequest) (room : ℕ) (d : Decision) (n : ℕ) → judgeOf b ≡ x → judgeRequestOf q ≡ y
-      → hostNumber (inOrder x y room (Decided d n)) ≡ refusalNumber (refusal number book line) → Breaks b (refusal number book line)
-  host-told q (of-book.Refused r) y room d n e f t = book-told e t
-  host-told q (of-book.Accepted m k) (of-request.Refused r) room d n e f t = let p = request-part (refused-request-breaks q r f) in absurd (omega (arith, p, t))
-  host-told q (of-book.Accepted m k) (of-request.Accepted o) room d n e f t = go (ltb room k) t
+      → hostNumber (inOrder x y room (Decided d n)) ≡ refusalNumber t → Breaks b t
+  host-told q (of-book.Refused r) y room d n e f v = book-told e v
+  host-told q (of-book.Accepted m k) (of-request.Refused r) room d n e f v =
+      absurd (omega (arith, request-part (refused-request-breaks q r f), o .part, o .number, o .line, v))
+  host-told q (of-book.Accepted m k) (of-request.Accepted j) room d n e f v = go (ltb room k) v
     where
-      go : (u : Bool) → hostNumber (if u (Refused noRoom) (Decided d n)) ≡ refusalNumber (refusal number book line) → Breaks b (refusal number book line)
-      go true v = absurd (omega (arith, v))
+      go : (u : Bool) → hostNumber (if u (Refused noRoom) (Decided d n)) ≡ refusalNumber t → Breaks b t
+      go true v = absurd (omega (arith, o .part, o .number, o .line, v))
       go false v = absurd (omega (arith, v, small d))
 
-  rig-told : (x : Judged) (room : ℕ) → judgeOf b ≡ x → translatedNumber (answerTo x b room) ≡ refusalNumber (refusal number book line) → Breaks b (refusal number book line)
-  rig-told (of-book.Refused r) room e t = book-told e t
-  rig-told (of-book.Accepted m k) room e t = go (ltb room (roomFor m)) t
+  rig-told : (x : Judged) (room : ℕ) → judgeOf b ≡ x → translatedNumber (answerTo x b room) ≡ refusalNumber t → Breaks b t
+  rig-told (of-book.Refused r) room e v = book-told e v
+  rig-told (of-book.Accepted m k) room e v = go (ltb room (roomFor m)) v
     where
-      go : (u : Bool) → translatedNumber (if u (translated.Refused noRoom) (translated.Entries (length (programmeOf b)))) ≡ refusalNumber (refusal number book line)
-          → Breaks b (refusal number book line)
-      go true v = absurd (omega (arith, v))
+      go : (u : Bool) → translatedNumber (if u (translated.Refused noRoom) (translated.Entries (length (programmeOf b)))) ≡ refusalNumber t → Breaks b t
+      go true v = absurd (omega (arith, o .part, o .number, o .line, v))
       go false v = absurd (omega (arith, v))
 
 pub told-is-broken : ToldIsBroken
 unfolding hostOutcome outcomeOf translateOf
-told-is-broken b number line h l =
-    (λ q out t. host-told b h l q (judgeOf b) (judgeRequestOf q) (length out / 2) _ _ refl refl t, λ buffer t. rig-told b h l (judgeOf b) (length buffer) refl t)
+told-is-broken b t o =
+    (λ q out v. host-told b t o q (judgeOf b) (judgeRequestOf q) (length out / 2) _ _ refl refl v, λ buffer v. rig-told b t o (judgeOf b) (length buffer) refl v)

@@ -4,7 +4,7 @@ use Prim.Native.Nat.{ℕ, _<_}
 use mathlib.Core.Path.{_≡_}
 use mathlib.Core.List.{List}
 use lib.ListN.{length}
-use Rattle.record.specs.Refusals.{book, refusal, refusalNumber}
+use Rattle.record.specs.Refusals.{book, refusalNumber}
 use Rattle.record.specs.declared.Refusal.{Refusal}
 use Rattle.judge.specs.Exactly.{Breaks}
 use Rattle.host.specs.Host.{hostNumber, hostOutcome, hostOut}
@@ -18,9 +18,15 @@ BrokenIsTold =
     → ((q out : List ℕ) → (hostNumber (hostOutcome b q out) ≡ refusalNumber r) × (hostOut b q out ≡ out))
     × ((buffer : List ℕ) → (translatedNumber (translateOf b (length buffer)) ≡ refusalNumber r) × (leaves (translateOf b (length buffer)) b buffer ≡ buffer))
 
--- and a number that says a refusal of the book is given only where the book breaks that rule at that line
+-- a refusal of the book that a number can say
+pub record OfBook (r : Refusal) : Type 0 where
+  pub part : r .part ≡ book
+  pub number : r .number < 256
+  pub line : r .line < 65536
+
+-- and it is said only where the book breaks that rule at that line
 abbrev pub ToldIsBroken : Type 0
 ToldIsBroken =
-    (b : List ℕ) (number line : ℕ) → number < 256 → line < 65536
-    → ((q out : List ℕ) → hostNumber (hostOutcome b q out) ≡ refusalNumber (refusal number book line) → Breaks b (refusal number book line))
-    × ((buffer : List ℕ) → translatedNumber (translateOf b (length buffer)) ≡ refusalNumber (refusal number book line) → Breaks b (refusal number book line))
+    (b : List ℕ) (r : Refusal) → OfBook r
+    → ((q out : List ℕ) → hostNumber (hostOutcome b q out) ≡ refusalNumber r → Breaks b r)
+    × ((buffer : List ℕ) → translatedNumber (translateOf b (length buffer)) ≡ refusalNumber r → Breaks b r)

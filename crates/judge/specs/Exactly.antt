@@ -15,7 +15,7 @@ use Rattle.judge.specs.Judge.{judgeOf}
 use Rattle.judge.specs.Sound.{Allowed}
 use Rattle.judge.specs.declared.Judged.the-variants.{Accepted, Refused}
 
--- the place rules are kept before record i, and the field rules by all n
+-- record i is one of n, all of which keep the field rules, and those before it the place rules
 pub record KeptTo (b : List ℕ) (n i : ℕ) : Type 0 where
   pub sized : Sized b n
   pub fields : AllKeep (fieldOk b) n
