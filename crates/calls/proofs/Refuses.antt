@@ -38,7 +38,7 @@ broken-is-told b r w =
     (λ q out. (rw e refl, rw e refl), λ buffer. (rw e refl, rw e refl))
 
 -- a refusal of the book is known by its number
-same : (r t : Refusal) → Small r mostRecords → OfBook t → refusalNumber r ≡ refusalNumber t → r ≡ t
+same : {b : List ℕ} (r t : Refusal) → Small b r mostRecords → OfBook t → refusalNumber r ≡ refusalNumber t → r ≡ t
 same r t s o e =
     let z : r .part ≡ t .part = omega (arith, s .number, s .line, o .part, o .number, o .line, e) in
     let y : r .line ≡ t .line = omega (arith, s .number, o .number, e, z) in

@@ -7,14 +7,13 @@ use Prim.Native.Nat.{ℕ, _+_, _≤_, _<_}
 use native.Mathlib.Nat.{eq-or-lt-of-le}
 use native.Mathlib.Omega.{arith}
 use lib.Dec.{leb}
-use borrow.Author.Tests.{le-leb, lt-leb, leb-true, leb-false, eq-eqb, ne-eqb}
+use borrow.Author.Tests.{le-leb, lt-leb, leb-true, leb-false, ne-eqb}
 use Rattle.record.specs.Refusals.{badPlace}
 use Rattle.fields.proofs.First.{by}
 use Rattle.placement.specs.Place.{mostDepth, endOf, parentOf, depthOf, standsAt, childRule, childBroken, topOk, brokenAt, placeOk}
-use Rattle.placement.proofs.Laws.{rule-zero}
-use Rattle.judge.specs.Sound.{Allowed}
+use Rattle.judge.specs.Sound.{Allowed, Placed}
 use Rattle.judge.specs.Exactly.{KeptTo, Breaks, top, past, misplaced, deep}
-use Rattle.judge.proofs.Sound.{stands-allowed, allowed-stands}
+use Rattle.judge.proofs.Sound.{stands-allowed, allowed-stands, placed-is-ok}
 
 -- line 1
 top-ok : (b : List ℕ) → topOk b ≡ true → placeOk b 0 ≡ true
@@ -53,29 +52,26 @@ module _ (b : List ℕ) {n i : ℕ} (k : KeptTo b n i) (h : 0 < i) where
       unfolding childRule
       twelve l = child ∙ rw (le-leb (endOf b i) (endOf b (parentOf b i)) w, stands, lt-leb (depthOf b i) mostDepth l)
 
-      none : depthOf b i ≤ mostDepth → brokenAt b i ≡ 0
-      none l = child ∙ rule-zero (endOf b i) (endOf b (parentOf b i)) (depthOf b i) _ w stands l
-
   -- and back: what the line breaks, by the lowest number
-  child-breaks : (brokenAt b i ≡ 0 → ⊥) → Breaks b (badPlace (brokenAt b i) (i + 1))
-  child-breaks bad =
+  child-breaks : placeOk b i ≡ false → Breaks b (badPlace (brokenAt b i) (i + 1))
+  child-breaks e =
       let p : ℕ = parentOf b i in
       by (leb (endOf b i) (endOf b p))
       (λ t. let w = leb-true (endOf b i) (endOf b p) t in
       by (standsAt b p i)
       (λ u. let a = allowed u in
       by (leb (depthOf b i) mostDepth)
-      (λ v. absurd (bad (none w a (leb-true (depthOf b i) mostDepth v))))
+      (λ v. let o : Placed b i = record { within = w; allowed = a; depth = leb-true (depthOf b i) mostDepth v } in
+      absurd (true≢false (sym (placed-is-ok b n i (k .sized) h (k .inside) (k .before) (k .fields i (k .inside)) o) ∙ e)))
       (λ v. let l = leb-false (depthOf b i) mostDepth v in deep n i (rw (twelve w a l) refl) k h w a l))
       (λ u. let wrong : Allowed b i → ⊥ = λ a. true≢false (sym (stands w a) ∙ u) in misplaced n i (rw (eleven w wrong) refl) k h w wrong))
       (λ t. let l = leb-false (endOf b i) (endOf b p) t in past n i (rw (ten l) refl) k h l)
 
 pub broken-breaks : (b : List ℕ) {n i : ℕ} → KeptTo b n i → placeOk b i ≡ false → Breaks b (badPlace (brokenAt b i) (i + 1))
-unfolding placeOk
 broken-breaks b {n} {i} k e =
     ⊎-elim
     (λ (z : 0 ≡ i). by (topOk b)
     (λ t. absurd (true≢false (sym (top-ok b t) ∙ (rw (← z) at e))))
     (λ t. top n (rw (← z, nine b t) refl) (rw (← z) at k) t))
-    (λ (h : 0 < i). child-breaks b k h (λ z. true≢false (sym (eq-eqb (brokenAt b i) 0 z) ∙ e)))
+    (λ (h : 0 < i). child-breaks b k h e)
     (eq-or-lt-of-le (omega arith))

@@ -1,23 +1,18 @@
--- Depth, parent and phrases as loops find them, and where a refusal stands. Assumes nothing.
+-- Depth, parent and phrases as loops find them. Assumes nothing.
 use mathlib.Core.Path.{_≡_, refl, sym, _∙_}
 use mathlib.Core.Bool.{Bool}
 use mathlib.Core.List.{List}
-use Prim.Native.Nat.{ℕ, _+_, _-_, _*_, _≤_, _<_}
+use Prim.Native.Nat.{ℕ, _+_, _-_, _≤_, _<_}
 use native.Mathlib.Numerals.{add-one}
 use native.Mathlib.Omega.{arith}
 use lib.Dec.{eqb, ltb}
 use lib.ListN.{length, take, drop, getD}
 use borrow.Author.Tests.{lt-ltb, le-ltb, eq-eqb, ne-eqb}
 use Rattle.record.specs.Choose.{if}
-use Rattle.record.specs.Bytes.{size, spanOf}
-use Rattle.record.specs.declared.Refusal.{Refusal}
+use Rattle.record.specs.Bytes.{spanOf}
 use Rattle.fields.specs.First.{countBelow, lastBelow, firstFrom}
 use Rattle.fields.proofs.First.{count-more, first-none, first-here, first-next}
 use Rattle.placement.specs.Place.{endOf, covers, depthOf, parentOf}
-use Rattle.judge.specs.Judge.{judgeOf}
-use Rattle.judge.specs.Exactly.{Breaks, empty, cut, many, field, top, past, misplaced, deep}
-use Rattle.judge.specs.declared.Judged.the-variants.{Refused}
-use Rattle.judge.proofs.Exactly.{refused-breaks}
 use Rattle.show.specs.Phrase.{barAt, fewer, noBar, startOf, stopOf, phraseOf}
 
 pub covers-is : (b : List ℕ) (i j : ℕ) {s : ℕ} → s ≡ spanOf b j → ltb i (j + s) ≡ covers b i j
@@ -93,17 +88,3 @@ module _ (w : List ℕ) (from : ℕ) where
 pub phrase-is : (w : List ℕ) (k : ℕ) {a e : ℕ} → a ≡ startOf w k → e ≡ stopOf w a → take (e - a) (drop a w) ≡ phraseOf w k
 unfolding phraseOf
 phrase-is w k p q = rw (q, p)
-
--- the line of a refusal is a line of the book
-pub refused-inside : (b : List ℕ) {r : Refusal} → judgeOf b ≡ Refused r → r .line * size ≤ length b
-refused-inside b {r} e = go (refused-breaks b r e)
-  where
-    go : Breaks b r → r .line * size ≤ length b
-    go (empty er l) = rw er (omega arith)
-    go (cut er l) = rw er (omega arith)
-    go (many er l m) = rw er (omega arith)
-    go (field n i er s w) = rw er (omega (arith, s .bytes, w .inside))
-    go (top n er k t) = rw er (omega (arith, k .sized .bytes, k .inside))
-    go (past n i er k h l) = rw er (omega (arith, k .sized .bytes, k .inside))
-    go (misplaced n i er k h w x) = rw er (omega (arith, k .sized .bytes, k .inside))
-    go (deep n i er k h w a l) = rw er (omega (arith, k .sized .bytes, k .inside))
