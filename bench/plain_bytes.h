@@ -67,6 +67,12 @@ static inline double double_of(uint64_t bits)
     return d;
 }
 
+/* Doubles are equal as IEEE 754 says, the two zeros too; integers and names by their bytes. */
+static inline bool equal(unsigned type, uint64_t a, uint64_t b)
+{
+    return type == DOUBLE ? double_of(a) == double_of(b) : a == b;
+}
+
 /* The function of a match or comparison of two values of this type: the literal first, then the request's. */
 static inline bool holds(unsigned function, unsigned type, uint64_t a, uint64_t b)
 {
@@ -74,17 +80,17 @@ static inline bool holds(unsigned function, unsigned type, uint64_t a, uint64_t 
     case NEVER:
         return false;
     case GREATER_OR_EQUAL:
-        if (a == b)
+        if (equal(type, a, b))
             return true; /* fall through */
     case GREATER:
         return type == DOUBLE ? double_of(a) > double_of(b) : (int64_t)a > (int64_t)b;
     case LESS_OR_EQUAL:
-        if (a == b)
+        if (equal(type, a, b))
             return true; /* fall through */
     case LESS:
         return type == DOUBLE ? double_of(a) < double_of(b) : (int64_t)a < (int64_t)b;
     default:
-        return a == b;
+        return equal(type, a, b);
     }
 }
 

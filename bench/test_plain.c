@@ -1,6 +1,6 @@
-/* Tries the plain C of the benchmark on document 01's P1 to P11, its Run line, some refusals, and the examples:
- * decided, and run as a programme. Run from the top of the repository; built by bench/run. Exit status 0 if all is
- * right, else 1. */
+/* Tries the plain C of the benchmark on document 01's P1 to P11, its Run line, the two zeros of document 02, some
+ * refusals, and the examples: decided, and run as a programme. Run from the top of the repository; built by bench/run.
+ * Exit status 0 if all is right, else 1. */
 #include "books.h"
 #include "machine.h"
 #include "plain.h"
@@ -108,6 +108,24 @@ static void worked(void)
                   "03010001000000000000000000000000\n", "", "030000");
 }
 
+/* The two zeros, as literal and as request value, by every function: equal as doubles, and not as names. */
+static void zeros(void)
+{
+    static const char *const zero[2] = { "0000000000000000", "8000000000000000" };
+    static const int holds[5] = { 1, 0, 1, 0, 1 };
+    for (int i = 0; i < 4 * 6; i++) {
+        int literal = i & 1, value = i >> 1 & 1, function = i >> 2, as_names = function == 5;
+        char name[40], policy[4 * 33], entry[34];
+        if (as_names)
+            function = 0;
+        snprintf(name, sizeof name, "zeros %d and %d, function %d", literal, value, function + 1);
+        snprintf(policy, sizeof policy, "02030003%024d\n03010002%024d\n070%X000104%02d0003%s\n", 0, 0, 11 + function,
+                 as_names ? 2 : 3, zero[literal]);
+        snprintf(entry, sizeof entry, "04%02d000300000000%s\n", as_names ? 2 : 3, zero[value]);
+        expect(name, policy, entry, (as_names ? literal == value : holds[function]) ? "010000" : "030000");
+    }
+}
+
 /* A set of span records, and policies of one record to fill it. */
 static size_t flat(size_t records)
 {
@@ -198,16 +216,18 @@ static void examples(const char *folder)
 int main(void)
 {
     worked();
+    zeros();
     run_line();
     refusals();
     programme_of_a();
     examples("examples/a");
     examples("examples/rig");
+    examples("examples/zero");
     examples("examples/refused/9");
     examples("examples/refused/10");
     examples("examples/refused/11");
     examples("examples/refused/12");
     examples("examples/refused/11-and-12");
-    printf("%s\n", failed ? "plain C: not as document 01 says" : "plain C: ok");
+    printf("%s\n", failed ? "plain C: not as documents 01 and 02 say" : "plain C: ok");
     return failed;
 }

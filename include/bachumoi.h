@@ -17,7 +17,8 @@ extern "C" {
 /* ---- Deciding: link libhost.a ------------------------------------------------------------------------------
  *
  *   book     book_len bytes: 1 to 1,000 records of 16 bytes, parent first
- *   request  request_len bytes: 0 to 64 entries of 16 bytes
+ *   request  request_len bytes: 0 to 64 entries of 16 bytes. A double is compared as C compares it: -0.0 is 0.0. A
+ *            name is told by its eight bytes
  *   out      out_len bytes, for the obligations: at least twice as many bytes as the book has obligation records
  *
  * The number returned is one of two.

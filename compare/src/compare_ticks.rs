@@ -15,12 +15,14 @@ use crate::requests;
 use crate::run::{hex, Difference};
 use crate::subject::{Rig, TickAnswer};
 use crate::tally::{numbers, words, Tally, Wanted};
+use crate::truth::wanted_zeros;
 
 const DEALINGS: [&str; 8] =
     ["one step a tick", "a few", "a few, zeros among them", "any", "exactly all", "all but one", "the largest", "300"];
 
 pub fn wanted() -> Wanted {
-    vec![
+    let mut wanted = wanted_zeros();
+    wanted.extend([
         ("translated", words(&["exact room", "more room"])),
         (refusals_of(Part::Book), numbers([2, 3, 4, 5, 9, 10, 11, 12])),
         (refusals_of(Part::Output), numbers([7])),
@@ -28,7 +30,8 @@ pub fn wanted() -> Wanted {
         ("answer", words(&["Permit", "Deny", "NotApplicable", "Indeterminate"])),
         ("obligations", words(&["none", "one", "several"])),
         ("refused tick", numbers([2, 4, 5, 7, 8])),
-    ]
+    ]);
+    wanted
 }
 
 /// Translates one generated book and runs it on one request; now and then a damaged book before it.
@@ -140,7 +143,7 @@ impl Run<'_> {
 
     /// The answer and the output are those of the evaluator, and of the host.
     fn check_answer(&self, start: &[u64], whole: &Left, tally: &mut Tally) -> Result<(), Difference> {
-        let (answer, looked_at) = decide::decide(self.book, self.bench.request(), &mut Tally::default());
+        let (answer, looked_at) = decide::decide(self.book, self.bench.request(), tally);
         let (decision, count) = (answer.decision as u64, answer.obligations.len());
         let mut out = answer.obligations.clone();
         out.resize(whole.out.len(), 0);

@@ -22,12 +22,13 @@ impl Decision {
     }
 }
 
-/// Two values are equal when they have one type and the same eight bytes; a double stands by its bytes.
-#[derive(Clone, Copy, PartialEq, Eq, Debug)]
+/// Two values are equal when they have one type and are the same integer, the same eight bytes of a name,
+/// or doubles that IEEE 754 calls equal, as it does the two zeros.
+#[derive(Clone, Copy, PartialEq, Debug)]
 pub enum Value {
     Integer(i64),
     Name([u8; 8]),
-    Double(u64),
+    Double(f64),
 }
 
 #[derive(Clone, Copy, PartialEq, Eq, Debug)]
@@ -232,6 +233,6 @@ fn value(value_type: u8, bytes: [u8; 8]) -> Value {
     match value_type {
         INTEGER => Value::Integer(i64::from_be_bytes(bytes)),
         NAME => Value::Name(bytes),
-        _ => Value::Double(u64::from_be_bytes(bytes)),
+        _ => Value::Double(f64::from_be_bytes(bytes)),
     }
 }

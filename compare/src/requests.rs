@@ -60,11 +60,10 @@ fn near(random: &mut Random, test: &Record) -> Entry {
     let value_type = test.type_byte() % MUST_BE_PRESENT;
     let bits = u64::from_be_bytes(test.value());
     let value = match random.below(10) {
-        0..=4 => test.value(),
-        5..=6 => beside(value_type, bits, 1),
-        7..=8 if value_type != DOUBLE => beside(value_type, bits, u64::MAX),
-        7 => beside(value_type, bits, u64::MAX),
-        8 => (bits ^ (1 << 63)).to_be_bytes(),
+        0..=3 => test.value(),
+        4..=5 => beside(value_type, bits, 1),
+        6 => beside(value_type, bits, u64::MAX),
+        7..=8 => (bits ^ (1 << 63)).to_be_bytes(), // the other zero of a zero
         _ => value(random, value_type),
     };
     let mut entry = Entry::new(test.category(), value_type, test.identifier(), value);

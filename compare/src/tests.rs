@@ -11,6 +11,7 @@ use crate::compare_ticks;
 use crate::decide;
 use crate::judge;
 use crate::paper;
+use crate::policy::Decision;
 use crate::random::Random;
 use crate::record::*;
 use crate::refusal::{refuse, too_short, Part, Refusal};
@@ -80,6 +81,30 @@ fn two_place_rules_at_one_line_give_the_lower() {
     records[0].0[..2].copy_from_slice(&[RULE, PERMIT]);
     records[0].set_span(18);
     assert_eq!(refusal(&records), (9, 1));
+}
+
+/// Whether a function, of this literal and this request value, lets a rule apply.
+fn holds(function: u8, value_type: u8, literal: u64, value: u64) -> bool {
+    let mut test = absent(CONDITION, COMPARISON + function, value_type);
+    test[0].0[8..].copy_from_slice(&literal.to_be_bytes());
+    let book = book_bytes(&with(POLICY, FIRST_APPLICABLE, &[with(RULE, PERMIT, &[test])]));
+    let request = request_bytes(&[Entry::new(1, value_type, 0, value.to_be_bytes())]);
+    decide::decide(&book, &request, &mut Tally::default()).0.decision == Decision::Permit
+}
+
+const MINUS_ZERO: u64 = 1 << 63;
+
+#[test]
+fn the_two_zeros_are_equal_as_doubles_alone() {
+    for (literal, value) in [(0, 0), (0, MINUS_ZERO), (MINUS_ZERO, 0), (MINUS_ZERO, MINUS_ZERO)] {
+        let of_doubles = [1, 2, 3, 4, 5].map(|function| holds(function, DOUBLE, literal, value));
+        assert_eq!(of_doubles, [true, false, true, false, true]);
+        assert_eq!(holds(1, NAME, literal, value), literal == value);
+        assert_eq!(holds(1, INTEGER, literal, value), literal == value);
+        assert_eq!(holds(3, INTEGER, literal, value), literal <= value); // the top bit is the sign
+    }
+    assert!(holds(1, NAME, u64::MAX, u64::MAX)); // as doubles it is no number, and equals nothing
+    assert!(!holds(3, DOUBLE, MINUS_ZERO, 1) && !holds(5, DOUBLE, 0, MINUS_ZERO + 1));
 }
 
 #[test]
@@ -255,6 +280,8 @@ enum Plan {
     CountWrong,
     OddByteKept,
     OrderOfObligations,
+    ZerosApart,
+    NamesAsDoubles,
     OutputTouchedWhileRunning,
     StateLostOnRefusal,
     ExtraStep,
@@ -307,7 +334,8 @@ impl Judge for Model {
 impl Host for Model {
     fn decide(&self, book: &[u8], request: &[u8], out: &mut [u8]) -> u64 {
         let last = out.last().copied();
-        let answer = decide::host_call(book, request, out, &mut Tally::default());
+        let (book, request) = self.misread(book, request);
+        let answer = decide::host_call(&book, &request, out, &mut Tally::default());
         match self.0 {
             Plan::OddByteKept if answer % 256 != 255 && out.len() % 2 == 1 => out[out.len() - 1] = last.unwrap(),
             Plan::OrderOfObligations if answer % 256 != 255 && answer > 511 => out[..4].rotate_left(2),
@@ -407,9 +435,31 @@ impl Model {
         }
     }
 
+    /// What a stand-in that compares values wrongly takes a book and a request for.
+    fn misread(&self, book: &[u8], request: &[u8]) -> (Vec<u8>, Vec<u8>) {
+        let (mut book, mut request) = (book.to_vec(), request.to_vec());
+        let misread = |lines: &mut [u8], type_at: usize, value_type, minus_zero: u64| {
+            for line in lines.chunks_exact_mut(LENGTH) {
+                if line[type_at] % MUST_BE_PRESENT == value_type && line[8..] == MINUS_ZERO.to_be_bytes() {
+                    line[8..].copy_from_slice(&minus_zero.to_be_bytes());
+                }
+            }
+        };
+        match self.0 {
+            Plan::ZerosApart => misread(&mut request, 1, DOUBLE, MINUS_ZERO + 1),
+            Plan::NamesAsDoubles => {
+                misread(&mut book, 5, NAME, 0);
+                misread(&mut request, 1, NAME, 0);
+            }
+            _ => {}
+        }
+        (book, request)
+    }
+
     fn run(&self, programme: &[u64], request: &[u8], state: &mut [u64], budget: u64, out: &mut [u16]) -> Tick {
         let before = state.to_vec();
         let book: Vec<u8> = programme[1..].iter().flat_map(|entry| entry.to_be_bytes()).collect();
+        let (book, request) = self.misread(&book, request);
         let mut steps = 0;
         if self.0 == Plan::OutputTouchedWhileRunning && budget == 1 {
             out[999] = 77;
@@ -425,7 +475,7 @@ impl Model {
                 state.copy_from_slice(&before);
                 return Tick { answer: TickAnswer::Refused(refuse(8, Part::Programme)), steps: 0 };
             }
-            let (answer, _) = decide::decide(&book, request, &mut Tally::default());
+            let (answer, _) = decide::decide(&book, &request, &mut Tally::default());
             match answer.obligations.get(first.place as usize) {
                 Some(&number) => {
                     state[1 + first.place as usize] = number.into();
@@ -528,7 +578,7 @@ fn judge_comparison() {
 #[test]
 fn decide_comparison() {
     assert!(decide_agrees(Plan::Right, 50_000));
-    for plan in [Plan::OddByteKept, Plan::OrderOfObligations] {
+    for plan in [Plan::OddByteKept, Plan::OrderOfObligations, Plan::ZerosApart, Plan::NamesAsDoubles] {
         assert!(!decide_agrees(plan, 3_000), "{plan:?}");
     }
 }
@@ -536,9 +586,9 @@ fn decide_comparison() {
 #[test]
 fn ticks_comparison() {
     assert!(ticks_agree(Plan::Right, 6_000));
-    for plan in
-        [Plan::OutputTouchedWhileRunning, Plan::ExtraStep, Plan::EndNotKept, Plan::AnswerTooEarly, Plan::BudgetNotUsed]
-    {
+    let planted =
+        [Plan::OutputTouchedWhileRunning, Plan::ExtraStep, Plan::EndNotKept, Plan::AnswerTooEarly, Plan::BudgetNotUsed];
+    for plan in planted.into_iter().chain([Plan::ZerosApart, Plan::NamesAsDoubles]) {
         assert!(!ticks_agree(plan, 2_000), "{plan:?}");
     }
 }

@@ -1,4 +1,4 @@
-//! Bag, match, comparison, logic and target of document 01, from left to right and stopping where a
+//! Bag, match, comparison, logic and target of documents 01 and 02, from left to right and stopping where a
 //! part settles the answer. Each thing met on the way is counted.
 
 use crate::policy::*;
@@ -173,7 +173,7 @@ fn holds(function: Function, literal: Value, value: Value) -> bool {
 fn greater(left: Value, right: Value) -> bool {
     match (left, right) {
         (Value::Integer(left), Value::Integer(right)) => left > right,
-        (Value::Double(left), Value::Double(right)) => f64::from_bits(left) > f64::from_bits(right),
+        (Value::Double(left), Value::Double(right)) => left > right,
         _ => false,
     }
 }
@@ -182,23 +182,33 @@ fn greater(left: Value, right: Value) -> bool {
 
 /// How a literal stands to a request value of its type.
 fn relation(literal: Value, value: Value) -> (&'static str, &'static str) {
-    let type_name = match value {
-        Value::Integer(_) => "integer",
-        Value::Name(_) => "name",
-        Value::Double(_) => "double",
-    };
-    let how = if literal == value {
+    let order = if literal == value {
         "same"
     } else if greater(literal, value) {
         "literal above"
-    } else if greater(value, literal) {
-        "literal below"
-    } else if type_name == "name" {
-        "other"
     } else {
-        "the other zero"
+        "literal below"
     };
-    (type_name, how)
+    match (literal, value) {
+        (Value::Integer(_), _) => ("integer", order),
+        (Value::Name(literal), Value::Name(value)) => ("name", of_names(literal, value)),
+        (Value::Double(literal), Value::Double(value)) if literal == 0.0 && value == 0.0 => {
+            let minus = |zero: f64| usize::from(zero.is_sign_negative());
+            ("double", ZEROS[2 * minus(literal) + minus(value)])
+        }
+        _ => ("double", order),
+    }
+}
+
+/// Which zero a literal is, and which a request value.
+const ZEROS: [&str; 4] = ["0 and 0", "0 and -0", "-0 and 0", "-0 and -0"];
+
+/// Names are told by their bytes, also where these are a zero of doubles, or no number.
+const NAMES: [&str; 4] = ["other", "other, equal as doubles", "same, no number as doubles", "same"];
+
+fn of_names(literal: [u8; 8], value: [u8; 8]) -> &'static str {
+    let as_doubles = f64::from_be_bytes(literal) == f64::from_be_bytes(value);
+    NAMES[2 * usize::from(literal == value) + usize::from(as_doubles)]
 }
 
 pub fn truth_name(truth: Truth) -> &'static str {
@@ -268,16 +278,26 @@ pub fn wanted_truths() -> Wanted {
         ("target", pairs(&["No-match"], &["all sections seen"])),
         ("target", pairs(&["Indeterminate"], &["after a No-match", "before a No-match", "no No-match"])),
     ];
-    for function in
-        [Function::Equal, Function::Greater, Function::GreaterOrEqual, Function::Less, Function::LessOrEqual]
-    {
-        for group in [match_group(function), comparison_group(function)] {
-            wanted.push((group, pairs(&["integer", "double"], &["same", "literal above", "literal below"])));
-            wanted.push((group, pairs(&["double"], &["the other zero"])));
-            if function == Function::Equal {
-                wanted.push((group, pairs(&["name"], &["same", "other"])));
-            }
+    for (function, group) in groups() {
+        wanted.push((group, pairs(&["integer", "double"], &["same", "literal above", "literal below"])));
+        if function == Function::Equal {
+            wanted.push((group, pairs(&["name"], &NAMES)));
         }
     }
+    wanted.extend(wanted_zeros());
     wanted
+}
+
+/// Both zeros, as literal and as request value, in every function.
+pub fn wanted_zeros() -> Wanted {
+    groups().map(|(_, group)| (group, pairs(&["double"], &ZEROS))).collect()
+}
+
+/// Every function in a match and in a comparison.
+fn groups() -> impl Iterator<Item = (Function, &'static str)> {
+    let functions =
+        [Function::Equal, Function::Greater, Function::GreaterOrEqual, Function::Less, Function::LessOrEqual];
+    functions
+        .into_iter()
+        .flat_map(|function| [match_group(function), comparison_group(function)].map(|group| (function, group)))
 }

@@ -1,4 +1,5 @@
 pub mod Loop
 pub mod Decides
 pub mod Refuses
+pub mod Equal
 pub mod Contracts

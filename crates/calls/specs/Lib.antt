@@ -1,3 +1,4 @@
 pub mod Loop
 pub mod Decides
 pub mod Refuses
+pub mod Equal

@@ -1,5 +1,5 @@
 -- The whole call: judged in order, then decided. Assumes nothing.
-use mathlib.Core.Path.{_≡_, refl, sym, ap, fun-ext, _∙_}
+use mathlib.Core.Path.{_≡_, refl, sym, ap, _∙_}
 use mathlib.Core.Bool.{Bool, true, false}
 use mathlib.Core.List.{List, _++_}
 use Prim.Native.Nat.{ℕ, _+_, _-_, _*_, _/_, _≤_, _<_, min}
@@ -17,6 +17,7 @@ use Rattle.fields.specs.Fields.{obligationsOf}
 use Rattle.fields.proofs.First.{by}
 use Rattle.meaning.specs.Meaning.{said, owed, decides, obliges}
 use Rattle.meaning.specs.Reading.{bookOf, bagsOf}
+use Rattle.meaning.proofs.Alike.{counts-by-tests}
 use Rattle.meaning.specs.declared.Decision.{Decision}
 use Rattle.judge.specs.Judge.{judgeOf}
 use Rattle.judge.specs.Request.{judgeRequestOf}
@@ -27,7 +28,7 @@ use Rattle.judge.specs.declared.JudgedRequest.the-variants as request
 use Rattle.judge.proofs.Depth.{accepted-deep}
 use Rattle.judge.proofs.Exactly.{accepted-keeps}
 use Rattle.judge.proofs.Bounds.{refused-small, accepted-small, refused-request-small}
-use Rattle.decider.specs.Outcome.{dutiesOf, inOrder, outcomeOf, filled, outOf, CountsByBags}
+use Rattle.decider.specs.Outcome.{dutiesOf, inOrder, outcomeOf, outOf, OutcomeByTests}
 use Rattle.decider.specs.Inside.{treeFrom, childAt, roomOf, Ruled, Answered}
 use Rattle.decider.specs.declared.Outcome.{Outcome}
 use Rattle.decider.specs.declared.Outcome.the-variants.{Decided, Refused}
@@ -134,16 +135,13 @@ refused-line b q room {r} = go (judgeOf b) refl (judgeRequestOf q) refl
         at true e = same e (omega arith)
         at false e = let z : _≡_ {A = ℕ} 0 1 = cc in absurd (omega arith)
 
--- a request counts only through its bags
-pub counts-by-bags : CountsByBags
-unfolding outcomeOf outOf dutiesOf
-counts-by-bags b q r l n m eq er h =
-    let g : bagsOf q ≡ bagsOf r = fun-ext h in
-    let o : inOrder (judgeOf b) (judgeRequestOf q) (length l) (Decided (decides (bagsOf q) (bookOf b)) (length (obliges (bagsOf q) (bookOf b))))
-    ≡ inOrder (judgeOf b) (judgeRequestOf r) (length l) (Decided (decides (bagsOf r) (bookOf b)) (length (obliges (bagsOf r) (bookOf b)))) =
-    rw (eq, er, g) (go (judgeOf b) (Decided (decides (bagsOf r) (bookOf b)) (length (obliges (bagsOf r) (bookOf b))))) in
-    (o, ap (λ z. filled z (obliges (bagsOf q) (bookOf b)) l) o ∙ rw g)
+-- a request counts only through what tests find in its bags
+pub outcome-by-tests : OutcomeByTests
+unfolding outcomeOf dutiesOf
+outcome-by-tests b q r room n m eq er same =
+    let e = counts-by-tests (bagsOf q) (bagsOf r) same (bookOf b) in
+    (rw (eq, er, e .0, e .1) (go (judgeOf b) (Decided (decides (bagsOf r) (bookOf b)) (length (obliges (bagsOf r) (bookOf b))))), e .1)
   where
-    go : (j : Judged) (a : Outcome) → inOrder j (request.Accepted n) (length l) a ≡ inOrder j (request.Accepted m) (length l) a
+    go : (j : Judged) (a : Outcome) → inOrder j (request.Accepted n) room a ≡ inOrder j (request.Accepted m) room a
     go (book.Refused x) a = refl
     go (book.Accepted x y) a = refl

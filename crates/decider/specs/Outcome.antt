@@ -7,9 +7,9 @@ use lib.Dec.{ltb}
 use lib.ListN.{length, replicate}
 use Rattle.record.specs.Choose.{if}
 use Rattle.record.specs.Refusals.{noRoom}
-use Rattle.meaning.specs.Policy.{Key}
 use Rattle.meaning.specs.Meaning.{decides, obliges}
 use Rattle.meaning.specs.Reading.{bookOf, bagsOf}
+use Rattle.meaning.specs.Alike.{FoundAlike}
 use Rattle.judge.specs.Judge.{judgeOf}
 use Rattle.judge.specs.Request.{judgeRequestOf}
 use Rattle.judge.specs.declared.Judged.{Judged}
@@ -41,8 +41,9 @@ filled (Refused r) xs l = l
 unfoldable pub outOf : List ℕ → List ℕ → List ℕ → List ℕ
 outOf b q l = filled (outcomeOf b q (length l)) (dutiesOf b q) l
 
--- a request counts only through its bags: two that are accepted and have the same bags get the same outcome, and leave the same in the places
-abbrev pub CountsByBags : Type 0
-CountsByBags =
-    (b q r l : List ℕ) (n m : ℕ) → judgeRequestOf q ≡ request.Accepted n → judgeRequestOf r ≡ request.Accepted m → ((key : Key) → bagsOf q key ≡ bagsOf r key)
-    → (outcomeOf b q (length l) ≡ outcomeOf b r (length l)) × (outOf b q l ≡ outOf b r l)
+-- a request counts only through what tests find in its bags: two that are accepted, and in which every test finds the same, get the same outcome and the same
+-- obligations
+abbrev pub OutcomeByTests : Type 0
+OutcomeByTests =
+    (b q r : List ℕ) (room n m : ℕ) → judgeRequestOf q ≡ request.Accepted n → judgeRequestOf r ≡ request.Accepted m → FoundAlike (bagsOf q) (bagsOf r)
+    → (outcomeOf b q room ≡ outcomeOf b r room) × (dutiesOf b q ≡ dutiesOf b r)

@@ -1,3 +1,4 @@
 pub mod Logic
 pub mod Keys
+pub mod Alike
 pub mod Cases

@@ -4,3 +4,4 @@ pub mod Numbers
 pub mod Meaning
 pub mod Reading
 pub mod Keys
+pub mod Alike

@@ -1,11 +1,9 @@
 -- How the bag of a key is found in a request: entry after entry. Assumes nothing.
 use Prim.Native.Nat.{ℕ, zero, suc, _+_, _-_, _/_}
-use mathlib.Core.Bool.{Bool, true}
 use mathlib.Core.List.{List, [], _∷_}
 use lib.ListN.{length}
 use Rattle.record.specs.Choose.{if}
 use Rattle.record.specs.Bytes.{size}
-use Rattle.value.specs.Value.{noNan}
 use Rattle.value.specs.declared.Value.{Value}
 use Rattle.meaning.specs.Policy.{Key}
 use Rattle.meaning.specs.Reading.{keyIn, sameKey}
@@ -30,9 +28,3 @@ abbrev pub bagBy : List Value → Bag
 bagBy [] = Empty
 bagBy (v ∷ []) = One v
 bagBy (v ∷ w ∷ vs) = Several
-
--- and it is not the double that is not a number
-abbrev pub noNanIn : Bag → Bool
-noNanIn Empty = true
-noNanIn (One v) = noNan v
-noNanIn Several = true

@@ -1,7 +1,6 @@
 // Attribute values, and the functions 1 to 5 that compare them.
 ghost use mathlib.Core.Path.{_≡_};
-ghost use lib.Dec.{T};
-ghost use Rattle.value.specs.Value.{signed64, finiteOf, valueOf, noNan, greaterOf, equalOf, atLeastOf, functionOf, testOf};
+ghost use Rattle.value.specs.Value.{signed64, finiteOf, valueOf, greaterOf, equalOf, atLeastOf, functionOf, testOf};
 
 pub enum Value {
     Integer(i64),
@@ -49,7 +48,7 @@ fn signed(n: u64) -> i64
 
 // The value that eight bytes of the type kind stand for.
 pub fn value_of(kind: usize, n: u64) -> Value
-    ensures { λ r. ⌜ (r ≡ valueOf kind n) × T (noNan r) ⌝ }
+    ensures { λ r. ⌜ r ≡ valueOf kind n ⌝ }
 {
     if kind == 1 {
         return Value::Integer(signed(n));
@@ -82,9 +81,8 @@ fn greater(a: Value, b: Value) -> bool
     }
 }
 
-// The two are equal: doubles by their eight bytes.
+// The two are equal: doubles as IEEE 754 says, the two zeros too.
 fn equal(a: Value, b: Value) -> bool
-    requires { ⌜ T (noNan a) × T (noNan b) ⌝ }
     ensures { λ r. ⌜ r ≡ equalOf a b ⌝ }
 {
     match a {
@@ -101,25 +99,36 @@ fn equal(a: Value, b: Value) -> bool
         Value::Double(x) => match b {
             Value::Integer(_) => false,
             Value::Name(_) => false,
-            Value::Double(y) => f64::to_bits(x) == f64::to_bits(y),
+            Value::Double(y) => x == y,
         },
     }
 }
 
 // The first is greater than the second, or equal to it.
 fn at_least(a: Value, b: Value) -> bool
-    requires { ⌜ T (noNan a) × T (noNan b) ⌝ }
     ensures { λ r. ⌜ r ≡ atLeastOf a b ⌝ }
 {
-    if greater(a, b) {
-        return true;
+    match a {
+        Value::Integer(x) => match b {
+            Value::Integer(y) => x >= y,
+            Value::Name(_) => false,
+            Value::Double(_) => false,
+        },
+        Value::Name(x) => match b {
+            Value::Integer(_) => false,
+            Value::Name(y) => x == y,
+            Value::Double(_) => false,
+        },
+        Value::Double(x) => match b {
+            Value::Integer(_) => false,
+            Value::Name(_) => false,
+            Value::Double(y) => x >= y,
+        },
     }
-    equal(a, b)
 }
 
 // Function f of the literal and the request's value.
 pub fn holds(f: Function, literal: Value, given: Value) -> bool
-    requires { ⌜ T (noNan literal) × T (noNan given) ⌝ }
     ensures { λ r. ⌜ r ≡ testOf f literal given ⌝ }
 {
     match f {

@@ -4,16 +4,14 @@ use Rattle.request.proofs.lookup.Statement.{statement}
 use Rattle.request.proofs.lookup.Tie as tie
 
 returns : tie.Need-returns
-returns c = (bag-empty _ _ (c .before .next .ensures) (c .if1 .taken), tt)
+returns c = bag-empty _ _ (c .before .next .ensures) (c .if1 .taken)
 
 returns-2 : tie.Need-returns-2
-returns-2 c = (bag-several _ _ (c .before .before .before .next .ensures) (c .before .before .if1 .left) (c .before .next2 .ensures) (c .if2 .taken), tt)
+returns-2 c = bag-several _ _ (c .before .before .before .next .ensures) (c .before .before .if1 .left) (c .before .next2 .ensures) (c .if2 .taken)
 
 returns-3 : tie.Need-returns-3
-returns-3 c = (
-  bag-one _ _ (c .before .before .before .before .next .ensures) (c .before .before .before .if1 .left) (c .before .before .next2 .ensures) (c .before .if2 .left) (c .value-at .ensures .0),
-  c .value-at .ensures .1,
-)
+returns-3 c =
+    bag-one _ _ (c .before .before .before .before .next .ensures) (c .before .before .before .if1 .left) (c .before .before .next2 .ensures) (c .before .if2 .left) (c .value-at .ensures)
 
 pub lookup-spec : {M : Type 1} → statement M
 lookup-spec =
