@@ -116,7 +116,7 @@ static void ask(const struct question *q, int yes)
         free(book);
     }
     free(request);
-    printf("%-10s", right ? yes ? "yes" : "no" : "WRONG");
+    printf("%9s", right ? yes ? "yes" : "no" : "WRONG");
     failed |= !right;
 }
 
@@ -132,7 +132,7 @@ static void row(const char *what, unsigned function, unsigned type, int of_same,
 
 int main(void)
 {
-    printf("%-26s%-10s%-10s%-10s%s\n", "literal, request value", "0, 0", "0, -0", "-0, 0", "-0, -0");
+    printf("%-26s%9s%9s%9s%9s\n", "literal, request value", "0, 0", "0, -0", "-0, 0", "-0, -0");
     row("doubles: equal", 1, DOUBLE, 1, 1);
     row("doubles: greater", 2, DOUBLE, 0, 0);
     row("doubles: greater or equal", 3, DOUBLE, 1, 1);

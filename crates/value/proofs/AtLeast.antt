@@ -1,6 +1,6 @@
 -- Greater or equal is greater, or equal: of numbers, of whole numbers and of doubles. Assumes nothing.
-use mathlib.Core.Path.{_≡_, refl, sym, _∙_}
-use mathlib.Core.Bool.{Bool, true, false, _||_, Bool·beq}
+use mathlib.Core.Path.{_≡_, refl, sym, ap, _∙_}
+use mathlib.Core.Bool.{Bool, true, false, Bool·beq}
 use Prim.Native.Nat.{ℕ, _*_}
 use native.Mathlib.Omega.{arith}
 use borrow.Author.Tests.{eqb-true, eqb-false, ltb-true, ltb-false, le-leb, lt-leb}
@@ -58,10 +58,6 @@ eq-swap (fin s m e) nan = refl
 eq-swap (fin s m e) (inf t) = refl
 eq-swap (fin s m e) (fin t n d) = level-swap s t (m * up e * down d) (n * up d * down e)
 
-or-either : (a b : Bool) → (a || b) ≡ either a b
-or-either true b = refl
-or-either false b = refl
-
 pub at-least-double : (x y : Float) → le y x ≡ either (lt y x) (eq x y)
 unfolding le
-at-least-double x y = rw (eq-swap y x) (or-either (lt y x) (eq x y))
+at-least-double x y = ap (either (lt y x)) (eq-swap y x)
