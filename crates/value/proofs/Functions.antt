@@ -16,7 +16,8 @@ use Rattle.value.specs.declared.Function.the-variants.{Equal, Greater, G
 use Rattle.value.specs.Value.{signed64, finiteOf, valueOf, eqZ, equalOf, testOf}
 use Rattle.value.specs.Units.{unitsOf, exactlyOne, FunctionIsOfUnits, OneOfThree, EqualStandAlike}
 use Rattle.value.proofs.AtLeast.{equal-swap}
-use Rattle.value.proofs.Order.{lt-units, double-value, order-of-units}
+use Rattle.value.proofs.Sizes.{double-value}
+use Rattle.value.proofs.Order.{lt-units, order-of-units}
 use Rattle.value.proofs.Equality.{eq-units, equality-of-units}
 
 -- the functions, of doubles and of their whole numbers of units

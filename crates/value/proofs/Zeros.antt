@@ -10,7 +10,7 @@ use lib.Pow.{pow-pos, pow-mono}
 use Rattle.record.specs.Choose.{both, either}
 use Rattle.value.specs.Units.{sizeIn, sizeOf, zeroOf, OnlyZeros}
 use Rattle.value.proofs.Laws.{same-test}
-use Rattle.value.proofs.Order.{double-value}
+use Rattle.value.proofs.Sizes.{double-value}
 use Rattle.value.proofs.Equality.{eq-level}
 
 -- a larger exponent is a larger size, whatever the last 52 bits
