@@ -132,6 +132,35 @@ size_t growth_book(uint8_t *book, size_t records)
     return (size_t)(pen.at - book);
 }
 
+/* The first operand plus the second is greater than the limit: double add, or integer add. */
+static void put_sum(struct pen *pen, unsigned type, unsigned first, unsigned second, uint64_t limit)
+{
+    put(pen, 7, 22, 5, 0, 0, 0, 0);
+    put(pen, 10, type == 3 ? 8 : 3, 3, 0, 0, 0, 0);
+    put(pen, 10, 2, 1, 4, type, first, 0);
+    put(pen, 10, 2, 1, 4, type, second, 0);
+    put(pen, 10, 1, 1, 0, type, 0, limit);
+}
+
+size_t sums_book(uint8_t *book, size_t records)
+{
+    struct pen pen = { book };
+    if (records % 9 != 1)
+        stop("sums_book", "records must be 1 more than a multiple of 9");
+    put(&pen, 1, 2, records, 0, 0, 0, 0);                       /* set, permit-overrides */
+    for (size_t i = 0; i < records / 9; i++) {
+        put(&pen, 2, 1, 9, 0, 0, 0, 0);                         /* policy, deny-overrides */
+        put(&pen, 3, 1, 1, 0, 0, 0, 0);                         /* Permit */
+        put(&pen, 3, 2, 6, 0, 0, 0, 0);
+        if (i % 2 == 0)
+            put_sum(&pen, 3, 3, 2, bits(100.0));                /* Deny if pressure + offset > 100.0 */
+        else
+            put_sum(&pen, 1, 1, 5, 36000);                      /* Deny if time + guard > 36,000 */
+        put(&pen, 8, 2, 1, 0, 0, (unsigned)i, 0);
+    }
+    return (size_t)(pen.at - book);
+}
+
 size_t growth_request(uint8_t *request, size_t entries)
 {
     struct pen pen = { request };
@@ -161,6 +190,17 @@ static void put_condition(struct pen *pen, unsigned depth)
     put(pen, 7, 12, 1, 4, 1, 7, 50);
 }
 
+/* A comparison of two values, and operators in it one in the other, each the second operand of the one around it. */
+static void put_operators(struct pen *pen, unsigned depth)
+{
+    for (unsigned left = DEPTH - depth; left > 0; left--) {
+        bool outermost = left == DEPTH - depth;
+        put(pen, outermost ? 7 : 10, outermost ? 22 : 3, 2 * left + 1, 0, 0, 0, 0);
+        put(pen, 10, 1, 1, 0, 1, 0, 50);
+    }
+    put(pen, 10, 2, 1, 4, 1, 7, 0);
+}
+
 static void put_section(struct pen *pen)
 {
     put(pen, 4, 0, 3, 4, 0, 0, 0);
@@ -175,6 +215,11 @@ static void put_filling(struct pen *pen, unsigned depth, enum filling filling)
         put(pen, 2, 1, DEPTH - depth + 1, 0, 0, 0, 0);
         put(pen, 3, 1, DEPTH - depth, 0, 0, 0, 0);
         put_condition(pen, depth + 2);
+        break;
+    case OPERATORS:
+        put(pen, 2, 1, 2 * (DEPTH - depth) - 1, 0, 0, 0, 0);
+        put(pen, 3, 1, 2 * (DEPTH - depth) - 2, 0, 0, 0, 0);
+        put_operators(pen, depth + 2);
         break;
     case POLICY_TARGET:
         put(pen, 2, 1, 5, 0, 0, 0, 0);
@@ -277,7 +322,8 @@ size_t wide_book(uint8_t *book, unsigned algorithm, unsigned sets, enum width wi
 size_t stack_book(uint8_t *book, size_t number)
 {
     static const struct { unsigned first, last; } deep[] = {    /* how many sets */
-        [SETS] = { 16, 16 }, [CONDITIONS] = { 0, 13 }, [POLICY_TARGET] = { 12, 12 }, [RULE_TARGET] = { 11, 11 },
+        [SETS] = { 16, 16 }, [CONDITIONS] = { 0, 13 }, [OPERATORS] = { 0, 12 }, [POLICY_TARGET] = { 12, 12 },
+        [RULE_TARGET] = { 11, 11 },
     }, wide[] = {
         [RULES] = { 0, 14 }, [POLICIES] = { 1, 15 }, [OBLIGATIONS] = { 0, 14 },
         [CONJUNCTIONS] = { 0, 12 }, [MATCHES] = { 0, 12 }, [PARTS] = { 0, 12 },
@@ -366,10 +412,49 @@ static void random_target(struct making *m, unsigned depth)
             random_section(m, category);
 }
 
+/* A literal of a sum; now and then one that most operators cannot take further. */
+static uint64_t random_literal(struct dice *dice, unsigned type)
+{
+    static const uint64_t ends[4][2] = { [1] = { INT64_MAX, (uint64_t)INT64_MIN },
+                                         [3] = { 0x7FEFFFFFFFFFFFFF, 0xFFEFFFFFFFFFFFFF } };
+    return type != 2 && roll(dice, 4) == 0 ? ends[type][roll(dice, 2)] : random_value(dice, type);
+}
+
+/* A value of this type at this depth, which leaves room for so many records. */
+static void random_operand(struct making *m, unsigned type, unsigned depth, size_t others)
+{
+    uint8_t *head = m->pen.at;
+    unsigned choice = roll(m->dice, 6), must = roll(m->dice, 4) == 0 ? 128 : 0;
+    if (choice < 2 && type != 2 && depth < DEPTH && room(m) >= others + 3) {
+        put(&m->pen, 10, type == 3 ? 8 : 3 + roll(m->dice, 5), 0, 0, 0, 0, 0);
+        random_operand(m, type, depth + 1, others + 1);
+        random_operand(m, type, depth + 1, others);
+        close_span(m, head);
+    } else if (choice < 4)
+        put(&m->pen, 10, 1, 1, 0, type, 0, random_literal(m->dice, type));
+    else
+        put(&m->pen, 10, 2, 1, 1 + roll(m->dice, 4), type + must, roll(m->dice, 2), 0);
+}
+
+/* A comparison of two values at this depth. */
+static void random_sum(struct making *m, unsigned depth)
+{
+    uint8_t *head = m->pen.at;
+    unsigned type = 1 + roll(m->dice, 3);
+    put(&m->pen, 7, type == 2 ? 21 : 21 + roll(m->dice, 5), 0, 0, 0, 0, 0);
+    random_operand(m, type, depth + 1, 1);
+    random_operand(m, type, depth + 1, 0);
+    close_span(m, head);
+}
+
 static void random_condition(struct making *m, unsigned depth)
 {
     uint8_t *head = m->pen.at;
     unsigned choice = 1 + roll(m->dice, 8);
+    if (choice > 6 && depth < DEPTH && room(m) >= 3) {
+        random_sum(m, depth);
+        return;
+    }
     if (choice > 3 || depth == DEPTH || room(m) < 2) {
         random_test(m, 7, 10, 1 + roll(m->dice, 4));
         return;

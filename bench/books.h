@@ -19,8 +19,12 @@ size_t bytes_of_file(const char *path, uint8_t *bytes, size_t most);
 size_t growth_book(uint8_t *book, size_t records);
 size_t growth_request(uint8_t *request, size_t entries);
 
+/* The same of policies whose Deny rule has a sum of two attributes for its condition, in doubles and in integers by
+ * turns: every policy applies to growth_request, Indeterminate for one entry and Deny for 8 or more. */
+size_t sums_book(uint8_t *book, size_t records);
+
 /* A book of nesting depth 16: sets of one algorithm, one in the other, and in the innermost what fills the rest. */
-enum filling { SETS, CONDITIONS, POLICY_TARGET, RULE_TARGET, FILLINGS };
+enum filling { SETS, CONDITIONS, OPERATORS, POLICY_TARGET, RULE_TARGET, FILLINGS };
 size_t deep_book(uint8_t *book, unsigned algorithm, unsigned sets, enum filling filling);
 
 /* A book of 1,000 records: sets of one algorithm, one in the other, and in the innermost one record with as many

@@ -97,18 +97,22 @@ static void rig(void)
     end_counts("rig");
 }
 
+static void grown(const char *what, size_t book_len)
+{
+    char name[32];
+    begin_counts();
+    one_book(book_len);
+    for (size_t entries = 1; entries <= 64; entries *= 8)
+        one_request(book_len, growth_request(request, entries));
+    snprintf(name, sizeof name, "%s %zu", what, book_len / RECORD);
+    end_counts(name);
+}
+
 static void growth(void)
 {
-    for (size_t records = 10; records <= 1000; records *= 10) {
-        char name[32];
-        size_t book_len = growth_book(book, records);
-        begin_counts();
-        one_book(book_len);
-        for (size_t entries = 1; entries <= 64; entries *= 8)
-            one_request(book_len, growth_request(request, entries));
-        snprintf(name, sizeof name, "growth %zu", records);
-        end_counts(name);
-    }
+    for (size_t records = 10; records <= 1000; records *= 10)
+        grown("growth", growth_book(book, records));
+    grown("sums", sums_book(book, 1000));
 }
 
 static void generated(const char *name, size_t most)

@@ -85,6 +85,17 @@ static void growth(struct input in, uint8_t *book, uint8_t *request)
         }
 }
 
+static void sums(struct input in, uint8_t *book, uint8_t *request)
+{
+    in.name = "sums";
+    in.book_len = sums_book(book, 1000);
+    in.out_len = need(book, in.book_len);
+    for (size_t entries = 1; entries <= 64; entries *= 8) {
+        in.request_len = growth_request(request, entries);
+        one(&in);
+    }
+}
+
 /* The deepest stack of a side over every stack_book; in is left with the length of the book that takes it. */
 static size_t deepest(struct input *in, uint8_t *book, side *of)
 {
@@ -119,6 +130,7 @@ int main(void)
     struct input in = { .book = book, .request = request, .out = out, .out_len = sizeof out };
     rig(in, book, request);
     growth(in, book, request);
+    sums(in, book, request);
     stack(in, book, request);
     return 0;
 }

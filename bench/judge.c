@@ -52,5 +52,6 @@ int main(void)
     one("rig", book, bytes_of_file("examples/rig/BOOK.HEX", book, sizeof book));
     for (size_t records = 10; records <= 1000; records *= 10)
         one("growth", book, growth_book(book, records));
+    one("sums", book, sums_book(book, 1000));
     return 0;
 }

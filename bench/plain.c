@@ -16,14 +16,15 @@ uint64_t looked;
  * category of the last one is added (0: none yet); to IN_SECTION and IN_CONJUNCTION the section's category is added. */
 enum state {
     BROKEN_FIELD, BROKEN_PLACE,
-    LEAF, DUTY,                 /* a match or comparison; an obligation */
+    LEAF, DUTY,                 /* a match, comparison, literal or attribute; an obligation */
     FULL,                       /* at depth 16 */
     TOP,                        /* before line 1 */
     IN_SET, SET_CHILDREN = IN_SET + 5, SET_OBLIGATIONS,
     IN_POLICY, POLICY_RULES = IN_POLICY + 5, POLICY_OBLIGATIONS,
     IN_RULE, RULE_CONDITION = IN_RULE + 5,
     IN_SECTION, IN_CONJUNCTION = IN_SECTION + 5,
-    IN_GROUP = IN_CONJUNCTION + 5, IN_NOT, NOT_PART
+    IN_GROUP = IN_CONJUNCTION + 5, IN_NOT, NOT_PART,
+    IN_VALUES                   /* of an operator, or of a comparison of two values */
 };
 
 static inline bool from_to(unsigned first, unsigned n, unsigned last)
@@ -41,6 +42,17 @@ static inline bool attribute_fits(unsigned function, uint32_t key, uint64_t valu
 {
     unsigned type = key >> 16 & 127;    /* without must-be-present */
     return from_to(1, key >> 24, 4) && value_fits(type, value) && (type != NAME || function == EQUAL);
+}
+
+/* Bytes 2 to 15 of a value. */
+static inline bool operand_fits(unsigned choice, unsigned span, uint32_t key, uint64_t value)
+{
+    unsigned type = key >> 16 & 255;
+    if (choice == LITERAL)
+        return span == 1 && (key & 0xFF00FFFF) == 0 && value_fits(type, value);
+    if (choice == ATTRIBUTE)
+        return span == 1 && from_to(1, key >> 24, 4) && from_to(INTEGER, type & 127, DOUBLE) && value == 0;
+    return from_to(ADD, choice, DOUBLE_ADD) && span >= 1 && (key | value) == 0;
 }
 
 /* Judges a record whose parent is in this state, and moves the state on. */
@@ -88,7 +100,8 @@ static inline __attribute__((always_inline)) unsigned judge_record(const uint8_t
     case CONDITION:
         if (from_to(11, choice, 15)
                 ? span != 1 || !attribute_fits(choice - COMPARISON, key, value)
-                : !from_to(AND, choice, NOT) || span < (choice == NOT ? 2 : 1) || (key | value) != 0)
+                : (!from_to(AND, choice, NOT) && !from_to(21, choice, 25)) || span < (choice == NOT ? 2 : 1) ||
+                      (key | value) != 0)
             return BROKEN_FIELD;
         if (from_to(IN_RULE, in, IN_RULE + 4))
             *state = RULE_CONDITION;
@@ -96,7 +109,7 @@ static inline __attribute__((always_inline)) unsigned judge_record(const uint8_t
             *state = NOT_PART;
         else if (in != IN_GROUP)
             return BROKEN_PLACE;
-        return choice > NOT ? LEAF : choice == NOT ? IN_NOT : IN_GROUP;
+        return choice > COMPARISON_OF_VALUES ? IN_VALUES : choice > NOT ? LEAF : choice == NOT ? IN_NOT : IN_GROUP;
     case OBLIGATION:
         if (!from_to(1, choice, 2) || span != 1 || (key >> 16 | value) != 0)
             return BROKEN_FIELD;
@@ -107,20 +120,49 @@ static inline __attribute__((always_inline)) unsigned judge_record(const uint8_t
         else
             return BROKEN_PLACE;
         return DUTY;
+    case VALUE:
+        if (!operand_fits(choice, span, key, value))
+            return BROKEN_FIELD;
+        return in != IN_VALUES ? BROKEN_PLACE : choice > ATTRIBUTE ? IN_VALUES : LEAF;
     default:
         return BROKEN_FIELD;
     }
 }
 
+/* Whether the children of the record at this index are two values of its type: an operator, or a comparison of two
+ * values, that ends within the book. A child is what no record between covers, since one of these may run too far, and
+ * is judged later. */
+static bool has_operands(const uint8_t *book, size_t at)
+{
+    const uint8_t *record = book + at * SIZE;
+    size_t end = at + big2(record + 2), covered = at + 1;
+    unsigned operands = 0, type = *record == VALUE ? type_of(record) : 0; /* 0: that of the first operand */
+    for (size_t i = at + 1; i < end; i++) {
+        const uint8_t *below = book + i * SIZE;
+        size_t its_end = i + big2(below + 2);
+        if (i >= covered) {
+            if (*below != VALUE || (type != 0 && type_of(below) != type))
+                return false;
+            type = type_of(below);
+            operands++;
+        }
+        if (its_end > covered)
+            covered = its_end;
+    }
+    return operands == 2 && (type != NAME || record[1] == COMPARISON_OF_VALUES + EQUAL);
+}
+
 /* The lowest number of the place rules that the record at this index breaks, whose parent is in this state, at any
  * depth, and ends at this index. */
-static unsigned place_rule(const uint8_t *record, size_t at, unsigned state, size_t end)
+static unsigned place_rule(const uint8_t *book, size_t at, unsigned state, size_t end)
 {
+    const uint8_t *record = book + at * SIZE;
     if (at == 0)
         return 9;
     if (at + big2(record + 2) > end)
         return 10;
-    return judge_record(record, &state) == BROKEN_PLACE ? 11 : 12;
+    unsigned opens = judge_record(record, &state);
+    return opens == BROKEN_PLACE || (opens == IN_VALUES && !has_operands(book, at)) ? 11 : 12;
 }
 
 /* The refusal of a book whose first broken place is at this index: any broken field comes before. */
@@ -131,7 +173,7 @@ static uint64_t broken_place(const uint8_t *book, size_t records, size_t at, uns
         if (judge_record(book + i * SIZE, &any) == BROKEN_FIELD)
             return refusal(5, OF_BOOK, i + 1);
     }
-    return refusal(place_rule(book + at * SIZE, at, state, end), OF_BOOK, at + 1);
+    return refusal(place_rule(book, at, state, end), OF_BOOK, at + 1);
 }
 
 uint64_t plain_judge_book(const uint8_t *book, size_t book_len)
@@ -168,7 +210,7 @@ uint64_t plain_judge_book(const uint8_t *book, size_t book_len)
         size_t its_end = i + big2(record + 2);
         if (opens == BROKEN_FIELD)
             return refusal(5, OF_BOOK, i + 1);
-        if (opens == BROKEN_PLACE || its_end > end)
+        if (opens == BROKEN_PLACE || its_end > end || (opens == IN_VALUES && !has_operands(book, i)))
             return broken_place(book, records, i, state == FULL ? opened : state, end);
         if (its_end > i + 1) {
             ends[open] = end;
@@ -208,7 +250,7 @@ struct call {
     size_t count;
 };
 
-/* The key of a match or comparison, as has_key wants it. */
+/* The key of a match, comparison or attribute, as has_key wants it. */
 static uint32_t key_of(const uint8_t *record)
 {
     uint8_t bytes[4] = { record[4], record[5] & ~MUST_BE_PRESENT, record[6], record[7] };
@@ -231,25 +273,57 @@ static enum truth match(const struct call *call, const uint8_t *record)
     return found || record[5] < MUST_BE_PRESENT ? FALSE : UNKNOWN;
 }
 
-static enum truth comparison(const struct call *call, const uint8_t *record)
+/* The entry of a record's bag; NULL unless it has exactly one. */
+static const uint8_t *one_and_only(const struct call *call, const uint8_t *record)
 {
     uint32_t key = key_of(record);
     const uint8_t *only = NULL;
     for (const uint8_t *entry = call->request; entry != call->request_end; entry += SIZE)
         if (has_key(entry, key)) {
             if (only)
-                return UNKNOWN;
+                return NULL;
             only = entry;
         }
+    return only;
+}
+
+static enum truth comparison(const struct call *call, const uint8_t *record)
+{
+    const uint8_t *only = one_and_only(call, record);
     if (!only)
         return UNKNOWN;
     return holds(record[1] - COMPARISON, only[1], big8(record + 8), big8(only + 8)) ? TRUE : FALSE;
+}
+
+static struct value value_of(const struct call *call, const uint8_t *record)
+{
+    LOOK();
+    if (record[1] == LITERAL)
+        return (struct value){ true, big8(record + 8) };
+    if (record[1] == ATTRIBUTE) {
+        const uint8_t *only = one_and_only(call, record);
+        return (struct value){ only != NULL, only ? big8(only + 8) : 0 };
+    }
+    const uint8_t *first = record + SIZE;
+    struct value a = value_of(call, first), b = value_of(call, after(first));
+    return operate(record[1], a, b);
+}
+
+static enum truth comparison_of_values(const struct call *call, const uint8_t *record)
+{
+    const uint8_t *first = record + SIZE;
+    struct value a = value_of(call, first), b = value_of(call, after(first));
+    if (!a.known || !b.known)
+        return UNKNOWN;
+    return holds(record[1] - COMPARISON_OF_VALUES, type_of(first), a.bytes, b.bytes) ? TRUE : FALSE;
 }
 
 static enum truth condition(const struct call *call, const uint8_t *record)
 {
     const uint8_t *part = record + SIZE, *end = after(record);
     LOOK();
+    if (record[1] > COMPARISON_OF_VALUES)
+        return comparison_of_values(call, record);
     if (record[1] > COMPARISON)
         return comparison(call, record);
     if (record[1] == NOT) {

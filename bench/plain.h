@@ -1,4 +1,4 @@
-/* Judging and deciding in plain C, as document 01 says and without a proof: the yardstick of the benchmark.
+/* Judging and deciding in plain C, as documents 01 and 02 say and without a proof: the yardstick of the benchmark.
  *
  * The numbers are those of include/bachumoi.h: decision + 256 x count, or
  * 255 + 256 x number + 65,536 x line + 4,294,967,296 x part for a refusal.

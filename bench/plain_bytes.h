@@ -1,17 +1,19 @@
-/* What the plain C of the benchmark shares: document 01's numbers for kinds and choices, big-endian numbers,
- * refusals, and how two values compare. */
+/* What the plain C of the benchmark shares: the papers' numbers for kinds and choices, big-endian numbers, refusals,
+ * how two values compare, and what an operator gives of them. */
 #ifndef PLAIN_BYTES_H
 #define PLAIN_BYTES_H
 
+#include <float.h>
 #include <stdbool.h>
 #include <stddef.h>
 #include <stdint.h>
 #include <string.h>
 
 enum { SIZE = 16, MOST_RECORDS = 1000, MOST_ENTRIES = 64, MOST_DEPTH = 16 };
-enum { SET = 1, POLICY, RULE, SECTION, CONJUNCTION, MATCH, CONDITION, OBLIGATION };
+enum { SET = 1, POLICY, RULE, SECTION, CONJUNCTION, MATCH, CONDITION, OBLIGATION, VALUE = 10 };
 enum { DENY_OVERRIDES = 1, PERMIT_OVERRIDES, FIRST_APPLICABLE, ONLY_ONE_APPLICABLE };
-enum { AND = 1, OR, NOT, COMPARISON = 10 };
+enum { AND = 1, OR, NOT, COMPARISON = 10, COMPARISON_OF_VALUES = 20 };
+enum { LITERAL = 1, ATTRIBUTE, ADD, SUBTRACT, MULTIPLY, DIVIDE, REMAINDER, DOUBLE_ADD };
 enum { NEVER, EQUAL, GREATER, GREATER_OR_EQUAL, LESS, LESS_OR_EQUAL };
 enum { INTEGER = 1, NAME, DOUBLE, MUST_BE_PRESENT = 128 };
 enum { PERMIT = 1, DENY, NOT_APPLICABLE, INDETERMINATE };
@@ -67,13 +69,21 @@ static inline double double_of(uint64_t bits)
     return d;
 }
 
+static inline uint64_t bits_of(double d)
+{
+    uint64_t bits;
+    memcpy(&bits, &d, sizeof bits);
+    return bits;
+}
+
 /* Doubles are equal as IEEE 754 says, the two zeros too; integers and names by their bytes. */
 static inline bool equal(unsigned type, uint64_t a, uint64_t b)
 {
     return type == DOUBLE ? double_of(a) == double_of(b) : a == b;
 }
 
-/* The function of a match or comparison of two values of this type: the literal first, then the request's. */
+/* The function of a match or comparison of two values of this type: the literal first, then the request's; of two
+ * values of a condition, the first child first. */
 static inline bool holds(unsigned function, unsigned type, uint64_t a, uint64_t b)
 {
     switch (function) {
@@ -92,6 +102,51 @@ static inline bool holds(unsigned function, unsigned type, uint64_t a, uint64_t 
     default:
         return equal(type, a, b);
     }
+}
+
+/* The type of a value, by its record alone. */
+static inline unsigned type_of(const uint8_t *record)
+{
+    return record[1] <= ATTRIBUTE ? record[5] & ~MUST_BE_PRESENT : record[1] == DOUBLE_ADD ? DOUBLE : INTEGER;
+}
+
+/* A value as its eight bytes; Indeterminate where it is not known. */
+struct value {
+    bool known;
+    uint64_t bytes;
+};
+
+_Static_assert(FLT_EVAL_METHOD == 0, "a sum that is kept wider than a double would be rounded twice");
+
+/* What an operator gives of two values: not known where an operand is not, where an integer does not fit 64 bits, where
+ * a divisor is zero, and where a double is not finite. */
+static inline struct value operate(unsigned operator, struct value a, struct value b)
+{
+    int64_t x = (int64_t)a.bytes, y = (int64_t)b.bytes, result = 0;
+    bool lost = !a.known || !b.known;
+    switch (operator) {
+    case ADD:
+        lost |= __builtin_add_overflow(x, y, &result);
+        break;
+    case SUBTRACT:
+        lost |= __builtin_sub_overflow(x, y, &result);
+        break;
+    case MULTIPLY:
+        lost |= __builtin_mul_overflow(x, y, &result);
+        break;
+    case DIVIDE:
+        lost |= y == 0 || (y == -1 && x == INT64_MIN);
+        result = lost ? 0 : x / y;
+        break;
+    case REMAINDER:
+        lost |= y == 0;
+        result = lost || y == -1 ? 0 : x % y; /* by -1 it is 0, and C has none of the least integer */
+        break;
+    default: /* DOUBLE_ADD */
+        result = (int64_t)bits_of(double_of(a.bytes) + double_of(b.bytes));
+        lost |= !is_finite((uint64_t)result);
+    }
+    return (struct value){ !lost, (uint64_t)result };
 }
 
 #endif

@@ -7,8 +7,12 @@ enum { FRAMES = 17, LEVELS = 15, NUMBERS = 1 + FRAMES + LEVELS, PLACES = 1000, M
 
 /* What bits 0-3 of an entry say. */
 enum entry {
-    E_BEGIN, E_MATCH, E_COMPARE, E_OPEN, E_CLOSE, E_RULE, E_ENTER, E_APPLIES, E_CONCLUDE, E_OBLIGE, E_LEAVE, E_FINISH
+    E_BEGIN, E_MATCH, E_COMPARE, E_OPEN, E_CLOSE, E_RULE, E_ENTER, E_APPLIES, E_CONCLUDE, E_OBLIGE, E_LEAVE, E_FINISH,
+    E_SUM
 };
+
+/* What bits 4-5 of a sum's entry say: which piece of a comparison of two values it is. */
+enum piece { A_LITERAL, AN_ATTRIBUTE, AN_OPERATOR, THE_COMPARISON };
 
 /* The algorithms by their numbers in a programme. */
 enum algorithm { FIRST, RULES_DENY, RULES_PERMIT, POLICIES_DENY, POLICIES_PERMIT, ONLY_ONE };
@@ -16,8 +20,8 @@ enum algorithm { FIRST, RULES_DENY, RULES_PERMIT, POLICIES_DENY, POLICIES_PERMIT
 /* Where the way of an entry begins. */
 enum { WAY = 4, WAY_OF_RULE = 5, WAY_OF_COMPARE = 40, WAY_OF_MATCH = 43, WAY_OUT = 13 };
 
-/* Where the cut of the first entry begins. */
-enum { CUT = 7 };
+/* Where the cut of the first entry begins; where, in a sum's entry, what the piece is of. */
+enum { CUT = 7, PIECE = 4, OF_PIECE = 6 };
 
 /* ---- Translating an accepted book -------------------------------------------------------------------------- */
 
@@ -59,11 +63,15 @@ static void lead_here(struct pen *pen, size_t chain)
     }
 }
 
+static uint64_t key_of(const uint8_t *record)
+{
+    return big4(record + 4) & ~((uint32_t)MUST_BE_PRESENT << 16);
+}
+
 /* Function, must-be-present and key of a match or comparison; the key begins at this bit. */
 static uint64_t test_of(const uint8_t *record, unsigned function, unsigned key)
 {
-    uint64_t its_key = big4(record + 4) & ~((uint32_t)MUST_BE_PRESENT << 16);
-    return function | (record[5] >= MUST_BE_PRESENT ? 8 : 0) | its_key << key;
+    return function | (record[5] >= MUST_BE_PRESENT ? 8 : 0) | key_of(record) << key;
 }
 
 static void put_conjunction(struct pen *pen, const uint8_t *record, bool last_of_section, bool of_last_section)
@@ -107,8 +115,46 @@ static void lead_out(struct pen *pen, size_t first, size_t behind)
         pen->programme[match + 2] |= (uint64_t)(pen->at - (match + 3)) << WAY_OUT;
 }
 
+static void put_piece(struct pen *pen, enum piece piece, uint64_t of)
+{
+    put(pen, E_SUM | (uint64_t)piece << PIECE | of << OF_PIECE);
+}
+
+/* A value: its operands before it, so that they stand on the levels when it is met. */
+static void put_value(struct pen *pen, const uint8_t *record)
+{
+    const uint8_t *first = record + SIZE;
+    switch (record[1]) {
+    case LITERAL:
+        put_piece(pen, A_LITERAL, type_of(record));
+        put(pen, big8(record + 8));
+        break;
+    case ATTRIBUTE:
+        put_piece(pen, AN_ATTRIBUTE, key_of(record));
+        break;
+    default:
+        put_value(pen, first);
+        put_value(pen, after(first));
+        put_piece(pen, AN_OPERATOR, record[1] - ADD);
+    }
+}
+
+/* A comparison of two values leaves a level with its truth, which an ordinary close tells. */
+static void put_comparison_of_values(struct pen *pen, const uint8_t *record, size_t *chain)
+{
+    const uint8_t *first = record + SIZE;
+    put_value(pen, first);
+    put_value(pen, after(first));
+    put_piece(pen, THE_COMPARISON, (record[1] - COMPARISON_OF_VALUES) | type_of(first) << 3);
+    put_in_chain(pen, E_CLOSE, chain);
+}
+
 static void put_condition(struct pen *pen, const uint8_t *record, size_t *chain)
 {
+    if (record[1] > COMPARISON_OF_VALUES) {
+        put_comparison_of_values(pen, record, chain);
+        return;
+    }
     if (record[1] > COMPARISON) {
         put_in_chain(pen, E_COMPARE | test_of(record, record[1] - COMPARISON, 4) << 4, chain);
         put(pen, big8(record + 8));
@@ -302,19 +348,30 @@ struct test {
     uint64_t literal;
 };
 
-/* A name that is ordered, and a double that is not finite, are in no translated programme. */
-static inline struct test test_by(unsigned function, uint32_t key, uint64_t literal)
+/* The function of this number for values of this type: a name that is ordered is in no translated programme. */
+static inline unsigned function_by(unsigned number, unsigned type)
+{
+    unsigned function = number < EQUAL || number > LESS_OR_EQUAL ? LESS_OR_EQUAL : number;
+    if (type == NAME && function != EQUAL)
+        return function == GREATER || function == LESS ? NEVER : EQUAL;
+    return function;
+}
+
+/* The key that an entry has, as has_key wants it. */
+static inline uint32_t key_by(uint32_t key)
 {
     uint8_t bytes[4] = { (uint8_t)(key >> 24), (uint8_t)(key >> 16), (uint8_t)(key >> 8), (uint8_t)key };
-    struct test test = { function, bytes[1], 0, literal };
-    memcpy(&test.key, bytes, sizeof bytes);
-    if (function < EQUAL || function > LESS_OR_EQUAL)
-        test.function = LESS_OR_EQUAL;
-    if (test.type == NAME && function != EQUAL)
-        test.function = function == GREATER || function == LESS ? NEVER : EQUAL;
-    if (test.type == DOUBLE && !is_finite(literal))
-        test.function = NEVER;
-    return test;
+    uint32_t number;
+    memcpy(&number, bytes, sizeof number);
+    return number;
+}
+
+/* A double that is not finite is in no translated programme. */
+static inline struct test test_by(unsigned function, uint32_t key, uint64_t literal)
+{
+    unsigned type = key >> 16 & 255;
+    bool never = type == DOUBLE && !is_finite(literal);
+    return (struct test){ never ? NEVER : function_by(function, type), type, key_by(key), literal };
 }
 
 static inline bool passes(const struct test *test, const uint8_t *entry)
@@ -334,15 +391,22 @@ static inline enum truth match_of(const struct run *run, struct test test, bool 
     return found || !must_be_present ? FALSE : UNKNOWN;
 }
 
-static inline enum truth comparison_of(const struct run *run, struct test test)
+/* The entry of a key's bag; NULL unless it has exactly one. */
+static inline const uint8_t *one_and_only(const struct run *run, uint32_t key)
 {
     const uint8_t *only = NULL;
     for (const uint8_t *entry = run->request; entry != run->request_end; entry += SIZE)
-        if (has_key(entry, test.key)) {
+        if (has_key(entry, key)) {
             if (only)
-                return UNKNOWN;
+                return NULL;
             only = entry;
         }
+    return only;
+}
+
+static inline enum truth comparison_of(const struct run *run, struct test test)
+{
+    const uint8_t *only = one_and_only(run, test.key);
     return !only ? UNKNOWN : passes(&test, only) ? TRUE : FALSE;
 }
 
@@ -423,13 +487,25 @@ static inline bool step_compare(struct run *run, uint64_t entry, size_t left)
     return go_on(run, tell(run, run->nest, truth) ? 1 + way : 1, run->reg);
 }
 
+/* Puts a level on top, where there is room. */
+static inline void push_level(struct run *run, uint64_t word)
+{
+    if (run->nest + 1 < LEVELS)
+        run->levels[++run->nest] = word;
+}
+
+/* Puts a level in place of the one on top and the one below. */
+static inline void replace_levels(struct run *run, uint64_t word)
+{
+    if (run->nest > 0)
+        run->nest--;
+    run->levels[run->nest] = word;
+}
+
 static inline bool step_open(struct run *run, uint64_t n)
 {
     unsigned operation = n < NOT - AND ? (unsigned)n : NOT - AND;
-    if (run->nest + 1 < LEVELS) {
-        run->nest++;
-        run->levels[run->nest] = level_word(operation, operation == OR - AND ? FALSE : TRUE);
-    }
+    push_level(run, level_word(operation, operation == OR - AND ? FALSE : TRUE));
     run->at++;
     return true;
 }
@@ -442,9 +518,70 @@ static inline bool step_close(struct run *run, uint64_t way)
     run->nest--;
     if (run->nest > 0)
         return go_on(run, tell(run, run->nest, truth) ? way : 0, run->reg);
-    uint64_t bottom = run->levels[0];
-    run->levels[0] = level_word(least(field(bottom, 0, 2), NOT - AND), (enum truth)least(field(bottom, 2, 2), UNKNOWN));
     return go_on(run, 0, register_of(truth));
+}
+
+/* ---- Sums -------------------------------------------------------------------------------------------------- */
+
+/* The word of a value for the levels. Once one is lost, all are to the end of the comparison: they stand as 0, and the
+ * truth of the conjunction, idle in conditions, says so. */
+static inline uint64_t word_of(struct run *run, struct value value)
+{
+    bool lost = !value.known || run->conjunction == UNKNOWN;
+    run->conjunction = lost ? UNKNOWN : TRUE;
+    return lost ? 0 : value.bytes;
+}
+
+/* A number beyond the operators is read as the last. */
+static inline unsigned operator_by(uint64_t number)
+{
+    return number < DOUBLE_ADD - ADD ? ADD + (unsigned)number : DOUBLE_ADD;
+}
+
+/* The comparison of two words, by its function and type. A type beyond a name is read as double, and a double that is
+ * not finite as a name: neither is in a translated programme. */
+static inline bool words_pass(uint64_t of, uint64_t a, uint64_t b)
+{
+    uint64_t type = of >> 3;
+    if (type != INTEGER && type != NAME) {
+        if (is_finite(a) != is_finite(b))
+            return false;
+        type = is_finite(a) ? DOUBLE : NAME;
+    }
+    return holds(function_by(of & 7, (unsigned)type), (unsigned)type, a, b);
+}
+
+static inline void step_attribute(struct run *run, uint32_t key)
+{
+    const uint8_t *only = one_and_only(run, key_by(key));
+    push_level(run, word_of(run, (struct value){ only != NULL, only ? big8(only + 8) : 0 }));
+}
+
+static inline bool step_sum(struct run *run, uint64_t of, size_t left)
+{
+    uint64_t second = run->levels[run->nest], first = run->levels[run->nest > 0 ? run->nest - 1 : 0];
+    enum truth truth;
+    switch (field(run->programme[run->at], PIECE, 2)) {
+    case A_LITERAL:
+        if (left < 1)
+            return false;
+        run->at++;
+        push_level(run, word_of(run, (struct value){ true, run->programme[run->at] }));
+        break;
+    case AN_ATTRIBUTE:
+        step_attribute(run, (uint32_t)of);
+        break;
+    case AN_OPERATOR:
+        replace_levels(run, word_of(run, operate(operator_by(of), (struct value){ true, first },
+                                                 (struct value){ true, second })));
+        break;
+    default:
+        truth = run->conjunction == UNKNOWN ? UNKNOWN : words_pass(of, first, second) ? TRUE : FALSE;
+        replace_levels(run, level_word(AND - AND, truth));
+        run->conjunction = TRUE;
+    }
+    run->at++;
+    return true;
 }
 
 /* ---- Frames ------------------------------------------------------------------------------------------------ */
@@ -638,6 +775,8 @@ static inline bool step(struct run *run)
         return n <= left && step_leave(run, n);
     case E_FINISH:
         return step_finish(run);
+    case E_SUM:
+        return step_sum(run, entry >> OF_PIECE, left);
     default:
         return false;
     }

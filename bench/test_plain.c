@@ -1,6 +1,6 @@
-/* Tries the plain C of the benchmark on document 01's P1 to P11, its Run line, the two zeros of document 02, some
- * refusals, and the examples: decided, and run as a programme. Run from the top of the repository; built by bench/run.
- * Exit status 0 if all is right, else 1. */
+/* Tries the plain C of the benchmark on document 01's P1 to P11, its Run line, the two zeros and the sums of document
+ * 02, some refusals, and the examples: decided, and run as a programme. Run from the top of the repository; built by
+ * bench/run. Exit status 0 if all is right, else 1. */
 #include "books.h"
 #include "machine.h"
 #include "plain.h"
@@ -126,6 +126,316 @@ static void zeros(void)
     }
 }
 
+/* ---- Sums -------------------------------------------------------------------------------------------------- */
+
+enum { ADD = 3, SUBTRACT, MULTIPLY, DIVIDE, REMAINDER, DOUBLE_ADD };
+enum { INTEGER = 1, NAME, DOUBLE };
+enum outcome { LOST, GIVES };
+
+/* Puts the lines of two operands: literals, or attributes 1 and 2 of the environment. Returns their length. */
+static int put_operands(char *text, unsigned type, const uint64_t *values, int as_attributes)
+{
+    char *at = text;
+    for (unsigned i = 0; i < 2; i++)
+        at += as_attributes ? sprintf(at, "0A02000104%02X%04X%016d\n", type, i + 1, 0)
+                            : sprintf(at, "0A01000100%02X0000%016llX\n", type, (unsigned long long)values[i]);
+    return (int)(at - text);
+}
+
+static void put_entries(char *text, unsigned type, const uint64_t *values)
+{
+    for (unsigned i = 0; i < 2; i++)
+        text += sprintf(text, "04%02X%04X00000000%016llX\n", type, i + 1, (unsigned long long)values[i]);
+}
+
+/* A rule that permits when the operator gives this result of the operands: Indeterminate where it gives none. */
+static void operates(unsigned operator, unsigned type, const uint64_t *operands, enum outcome outcome, uint64_t result)
+{
+    char name[80], policy[8 * 33 + 1], entries[2 * 33 + 1], *at;
+    put_entries(entries, type, operands);
+    snprintf(name, sizeof name, "operator %u of %016llX and %016llX", operator, (unsigned long long)operands[0],
+             (unsigned long long)operands[1]);
+    for (int as_attributes = 0; as_attributes < 2; as_attributes++) {
+        at = policy + sprintf(policy, "02030007%024d\n03010006%024d\n07150005%024d\n0A%02X0003%024d\n", 0, 0, 0,
+                              operator, 0);
+        at += put_operands(at, type, operands, as_attributes);
+        sprintf(at, "0A01000100%02X0000%016llX\n", type, (unsigned long long)result);
+        expect(name, policy, entries, outcome == GIVES ? "010000" : "040000");
+    }
+}
+
+#define MOST INT64_MAX
+#define LEAST INT64_MIN
+#define ROOT INT64_C(3037000499) /* the largest number whose square fits */
+#define TWO_TO_32 INT64_C(4294967296)
+
+/* The ends of every integer operator, and the signs of quotients and remainders. */
+static const struct {
+    unsigned operator;
+    int64_t first, second;
+    enum outcome outcome;
+    int64_t result;
+} of_integers[] = {
+    { ADD, 2, 3, GIVES, 5 }, { ADD, MOST, 0, GIVES, MOST }, { ADD, MOST, 1, LOST, 0 }, { ADD, 1, MOST, LOST, 0 },
+    { ADD, LEAST, -1, LOST, 0 }, { ADD, -1, LEAST, LOST, 0 }, { ADD, LEAST, LEAST, LOST, 0 },
+    { ADD, LEAST, MOST, GIVES, -1 }, { ADD, MOST - 1, 1, GIVES, MOST }, { ADD, LEAST + 1, -1, GIVES, LEAST },
+    { SUBTRACT, 2, 3, GIVES, -1 }, { SUBTRACT, LEAST, 1, LOST, 0 }, { SUBTRACT, MOST, -1, LOST, 0 },
+    { SUBTRACT, 0, LEAST, LOST, 0 }, { SUBTRACT, -1, LEAST, GIVES, MOST }, { SUBTRACT, LEAST, LEAST, GIVES, 0 },
+    { SUBTRACT, 0, MOST, GIVES, -MOST }, { SUBTRACT, -1, MOST, GIVES, LEAST }, { SUBTRACT, -2, MOST, LOST, 0 },
+    { MULTIPLY, -3, 7, GIVES, -21 }, { MULTIPLY, LEAST, -1, LOST, 0 }, { MULTIPLY, -1, LEAST, LOST, 0 },
+    { MULTIPLY, LEAST, 1, GIVES, LEAST }, { MULTIPLY, MOST, -1, GIVES, -MOST }, { MULTIPLY, MOST, MOST, LOST, 0 },
+    { MULTIPLY, LEAST, 0, GIVES, 0 }, { MULTIPLY, TWO_TO_32, TWO_TO_32, LOST, 0 },
+    { MULTIPLY, TWO_TO_32, TWO_TO_32 / 2, LOST, 0 }, { MULTIPLY, TWO_TO_32, -TWO_TO_32 / 2, GIVES, LEAST },
+    { MULTIPLY, ROOT, ROOT, GIVES, ROOT * ROOT }, { MULTIPLY, ROOT + 1, ROOT + 1, LOST, 0 },
+    { MULTIPLY, ROOT + 1, -ROOT - 1, LOST, 0 },
+    { DIVIDE, 7, 2, GIVES, 3 }, { DIVIDE, -7, 2, GIVES, -3 }, { DIVIDE, 7, -2, GIVES, -3 },
+    { DIVIDE, -7, -2, GIVES, 3 }, { DIVIDE, LEAST, -1, LOST, 0 }, { DIVIDE, LEAST, 1, GIVES, LEAST },
+    { DIVIDE, MOST, -1, GIVES, -MOST }, { DIVIDE, 5, 0, LOST, 0 }, { DIVIDE, 0, 0, LOST, 0 },
+    { DIVIDE, 0, 5, GIVES, 0 }, { DIVIDE, 1, LEAST, GIVES, 0 }, { DIVIDE, LEAST, LEAST, GIVES, 1 },
+    { REMAINDER, 7, 2, GIVES, 1 }, { REMAINDER, -7, 2, GIVES, -1 }, { REMAINDER, 7, -2, GIVES, 1 },
+    { REMAINDER, -7, -2, GIVES, -1 }, { REMAINDER, LEAST, -1, GIVES, 0 }, { REMAINDER, 5, -1, GIVES, 0 },
+    { REMAINDER, 5, 0, LOST, 0 }, { REMAINDER, LEAST, 0, LOST, 0 }, { REMAINDER, LEAST, MOST, GIVES, -1 },
+    { REMAINDER, MOST, LEAST, GIVES, MOST }, { REMAINDER, -6, 3, GIVES, 0 },
+};
+
+#define MOST_DOUBLE 0x1.FFFFFFFFFFFFFp1023
+#define LEAST_DOUBLE 0x1p-1074
+#define BELOW_HALF 0x1.FFFFFFFFFFFFFp969 /* next below 2 to the power 970, half a last place of the largest double */
+
+/* Sums of doubles that are exact; that are rounded up, down and at a tie to the even one; that are not finite. */
+static const struct {
+    double first, second;
+    enum outcome outcome;
+    double result;
+} of_doubles[] = {
+    { 1.5, 2.25, GIVES, 3.75 }, { 1, -1, GIVES, 0 }, { -0.0, -0.0, GIVES, 0 },
+    { 0x1.999999999999Ap-4, 0x1.999999999999Ap-3, GIVES, 0x1.3333333333334p-2 },
+    { 0x1p53, 1, GIVES, 0x1p53 }, { 0x1p53 + 2, 1, GIVES, 0x1p53 + 4 }, { -0x1p53, -1, GIVES, -0x1p53 },
+    { 0x1p53, 0x1.0000000000001p0, GIVES, 0x1p53 + 2 }, /* a tie, were it rounded to some wider number first */
+    { 1, 0x1p-53, GIVES, 1 }, { 1, 0x1.0000000000001p-53, GIVES, 0x1.0000000000001p0 }, { 1, LEAST_DOUBLE, GIVES, 1 },
+    { LEAST_DOUBLE, LEAST_DOUBLE, GIVES, 0x1p-1073 }, { LEAST_DOUBLE, -LEAST_DOUBLE, GIVES, 0 },
+    { 0x1p-1022, -LEAST_DOUBLE, GIVES, 0x0.FFFFFFFFFFFFFp-1022 },
+    { 0x0.FFFFFFFFFFFFFp-1022, LEAST_DOUBLE, GIVES, 0x1p-1022 },
+    { MOST_DOUBLE, -MOST_DOUBLE, GIVES, 0 }, { MOST_DOUBLE, LEAST_DOUBLE, GIVES, MOST_DOUBLE },
+    { MOST_DOUBLE, BELOW_HALF, GIVES, MOST_DOUBLE }, { -MOST_DOUBLE, -BELOW_HALF, GIVES, -MOST_DOUBLE },
+    { MOST_DOUBLE, 0x1p970, LOST, 0 }, { -MOST_DOUBLE, -0x1p970, LOST, 0 }, { 0x1p1023, 0x1p1023, LOST, 0 },
+    { MOST_DOUBLE, MOST_DOUBLE, LOST, 0 }, { -MOST_DOUBLE, -MOST_DOUBLE, LOST, 0 },
+};
+
+static uint64_t bits_of(double d)
+{
+    uint64_t bits;
+    memcpy(&bits, &d, sizeof bits);
+    return bits;
+}
+
+static void operators(void)
+{
+    for (size_t i = 0; i < sizeof of_integers / sizeof *of_integers; i++) {
+        uint64_t operands[2] = { (uint64_t)of_integers[i].first, (uint64_t)of_integers[i].second };
+        operates(of_integers[i].operator, INTEGER, operands, of_integers[i].outcome, (uint64_t)of_integers[i].result);
+    }
+    for (size_t i = 0; i < sizeof of_doubles / sizeof *of_doubles; i++) {
+        uint64_t operands[2] = { bits_of(of_doubles[i].first), bits_of(of_doubles[i].second) };
+        operates(DOUBLE_ADD, DOUBLE, operands, of_doubles[i].outcome, bits_of(of_doubles[i].result));
+    }
+}
+
+/* Two values by every function, the first of them less (order -1), equal (0) or greater (1); names by the first. */
+static void compares(unsigned type, uint64_t first, uint64_t second, int order)
+{
+    static const char *const holds[5] = { "010", "001", "011", "100", "110" };
+    uint64_t operands[2] = { first, second };
+    char name[60], policy[6 * 33 + 1], entries[2 * 33 + 1];
+    put_entries(entries, type, operands);
+    for (unsigned i = 0; i < 2 * (type == NAME ? 1 : 5); i++) {
+        unsigned choice = 21 + i / 2;
+        snprintf(name, sizeof name, "choice %u of values of type %u, order %d", choice, type, order);
+        int head = sprintf(policy, "02030005%024d\n03010004%024d\n07%02X0003%024d\n", 0, 0, choice, 0);
+        put_operands(policy + head, type, operands, i % 2 == 1);
+        expect(name, policy, entries, holds[i / 2][order + 1] == '1' ? "010000" : "030000");
+    }
+}
+
+static void comparisons_of_values(void)
+{
+    static const uint64_t minus_zero = (uint64_t)1 << 63, name = 0x4152474F4C494E20;
+    compares(INTEGER, UINT64_MAX, 1, -1);
+    compares(INTEGER, 7, 7, 0);
+    compares(INTEGER, INT64_MAX, minus_zero, 1);
+    compares(DOUBLE, bits_of(-2.5), bits_of(-2), -1);
+    compares(DOUBLE, 0, minus_zero, 0);
+    compares(DOUBLE, bits_of(LEAST_DOUBLE), minus_zero, 1);
+    compares(NAME, name, name, 0);
+    compares(NAME, 0, minus_zero, 1);
+}
+
+/* Deny, with obligation 18, when resource attribute 4 plus 3 is greater than 100. */
+enum { SUM_LINES = 8 };
+static const char *const sum_book[SUM_LINES] = {
+    "02030008000000000000000000000000", "03020006000000000000000000000000", "07160005000000000000000000000000",
+    "0A030003000000000000000000000000", "0A020001020100040000000000000000", "0A010001000100000000000000000003",
+    "0A010001000100000000000000000064", "08020001000000120000000000000000",
+};
+
+#define SUM_97 "02010004000000000000000000000061\n"
+#define SUM_98 "02010004000000000000000000000062\n"
+#define SUM_MOST "02010004000000007FFFFFFFFFFFFFFF\n"
+
+/* That book with another record at this line; line 0 for none. */
+static void with_line(const char *what, unsigned line, const char *record, const char *entries, const char *expected)
+{
+    char text[SUM_LINES * 33 + 1], *at = text;
+    for (unsigned i = 1; i <= SUM_LINES; i++)
+        at += sprintf(at, "%s\n", i == line ? record : sum_book[i - 1]);
+    expect(what, text, entries, expected);
+}
+
+static void attributes_of_sums(void)
+{
+    static const char present[] = "0A020001028100040000000000000000", limit[] = "0A020001020100050000000000000000";
+    with_line("97 + 3", 0, "", SUM_97, "030000");
+    with_line("98 + 3", 0, "", SUM_98, "0200010012");
+    with_line("the largest + 3", 0, "", SUM_MOST, "040000");
+    with_line("no pressure", 0, "", "", "040000");
+    with_line("pressure twice", 0, "", SUM_98 SUM_98, "040000");
+    with_line("pressure as a double", 0, "", "02030004000000004058800000000000\n", "040000");
+    with_line("pressure must be present", 5, present, SUM_98, "0200010012");
+    with_line("pressure must be present, and is not", 5, present, "", "040000");
+    with_line("no limit", 7, limit, SUM_98, "040000");
+    with_line("the largest + 3, and no limit", 7, limit, SUM_MOST, "040000");
+}
+
+#define LITERAL(digits) "0A0100010001000000000000000000" digits "\n"
+#define SAME "07150003000000000000000000000000\n" LITERAL("01") LITERAL("01")
+#define OTHER "07150003000000000000000000000000\n" LITERAL("01") LITERAL("02")
+#define BY_ZERO "07150005000000000000000000000000\n" \
+                "0A060003000000000000000000000000\n" LITERAL("01") LITERAL("00") LITERAL("01")
+
+/* A Permit rule under and, or or not of these conditions. */
+static void grouped(const char *what, unsigned choice, const char *parts, const char *expected)
+{
+    unsigned lines = (unsigned)strlen(parts) / 33;
+    char text[20 * 33 + 1];
+    sprintf(text, "0203%04X%024d\n0301%04X%024d\n07%02X%04X%024d\n%s", lines + 3, 0, lines + 2, 0, choice, lines + 1, 0,
+            parts);
+    expect(what, text, "", expected);
+}
+
+static void sums_in_groups(void)
+{
+    grouped("and: by zero, other", 1, BY_ZERO OTHER, "030000");
+    grouped("and: other, by zero", 1, OTHER BY_ZERO, "030000");
+    grouped("and: by zero, same", 1, BY_ZERO SAME, "040000");
+    grouped("and: same, same", 1, SAME SAME, "010000");
+    grouped("or: by zero, same", 2, BY_ZERO SAME, "010000");
+    grouped("or: same, by zero", 2, SAME BY_ZERO, "010000");
+    grouped("or: by zero, other", 2, BY_ZERO OTHER, "040000");
+    grouped("not: by zero", 3, BY_ZERO, "040000");
+    grouped("not: other", 3, OTHER, "010000");
+}
+
+/* Field rules of the new choices: line 4 is the operator, 5 the attribute, 6 a literal, 3 the comparison. */
+static void fields_of_sums(void)
+{
+    static const struct { unsigned line; const char *record; } broken[] = {
+        { 6, "0A010001008100000000000000000003" }, { 6, "0A010001000000000000000000000003" },
+        { 6, "0A010001000400000000000000000003" }, { 6, "0A010001020100000000000000000003" },
+        { 6, "0A010001000100010000000000000003" }, { 6, "0A010001000101000000000000000003" },
+        { 6, "0A010000000100000000000000000003" }, { 6, "0A010002000100000000000000000003" },
+        { 6, "0A010001000300007FF0000000000000" }, { 6, "0A01000100030000FFF8000000000000" },
+        { 5, "0A020001000100040000000000000000" }, { 5, "0A020001050100040000000000000000" },
+        { 5, "0A020001020000040000000000000000" }, { 5, "0A020001028000040000000000000000" },
+        { 5, "0A020001020400040000000000000000" }, { 5, "0A020001020100040000000000000001" },
+        { 5, "0A020001020100048000000000000000" }, { 5, "0A020000020100040000000000000000" },
+        { 5, "0A020002020100040000000000000000" }, { 4, "0A030000000000000000000000000000" },
+        { 4, "0A030003010000000000000000000000" }, { 4, "0A030003000100000000000000000000" },
+        { 4, "0A030003000000010000000000000000" }, { 4, "0A030003000000000000000000000001" },
+        { 4, "0A000003000000000000000000000000" }, { 4, "0A090003000000000000000000000000" },
+        { 4, "09030003000000000000000000000000" }, { 4, "0B030003000000000000000000000000" },
+        { 3, "07160000000000000000000000000000" }, { 3, "07160005000100000000000000000000" },
+        { 3, "07160005000000000000000000000001" }, { 3, "07140005000000000000000000000000" },
+        { 3, "071A0005000000000000000000000000" }, { 3, "07100005000000000000000000000000" },
+    };
+    for (size_t i = 0; i < sizeof broken / sizeof *broken; i++) {
+        char expected[16];
+        snprintf(expected, sizeof expected, "FF050100%02X", broken[i].line);
+        with_line(broken[i].record, broken[i].line, broken[i].record, SUM_98, expected);
+    }
+}
+
+/* Operands that are not two values of one type: 11 at the operator or comparison above them, whichever comes first. */
+static void places_of_sums(void)
+{
+    with_line("an operand of another type", 6, "0A010001000300000000000000000003", SUM_98, "FF0B010004");
+    with_line("a name plus 3", 5, "0A020001020200040000000000000000", SUM_98, "FF0B010004");
+    with_line("a limit of another type", 7, "0A010001000300000000000000000064", SUM_98, "FF0B010003");
+    with_line("double add of integers", 4, "0A080003000000000000000000000000", SUM_98, "FF0B010003");
+    with_line("an operator of one operand", 4, "0A030002000000000000000000000000", SUM_98, "FF0B010003");
+    with_line("an operator of three operands", 4, "0A030004000000000000000000000000", SUM_98, "FF0B010003");
+    with_line("a comparison of one value", 3, "07160004000000000000000000000000", SUM_98, "FF0B010003");
+    with_line("a comparison of no value", 3, "07160001000000000000000000000000", SUM_98, "FF0B010003");
+    with_line("an operand that is a condition", 6, "070B0001020100040000000000000003", SUM_98, "FF0B010004");
+    with_line("an operand that is an operator without operands", 6, "0A030001000000000000000000000000", SUM_98,
+              "FF0B010006");
+    with_line("an operand that runs too far, and so covers the limit", 6, "0A030002000000000000000000000000", SUM_98,
+              "FF0B010003");
+    with_line("a limit that runs past the comparison's end", 7, "0A030002000000000000000000000000", SUM_98,
+              "FF0A010007");
+    with_line("an operator that runs past the comparison's end, and covers the limit", 4,
+              "0A030005000000000000000000000000", SUM_98, "FF0B010003");
+    with_line("a value in place of an obligation", 8, "0A010001000100000000000000000003", SUM_98, "FF0B010008");
+    with_line("a value in place of a condition", 3, "0A030005000000000000000000000000", SUM_98, "FF0B010003");
+    with_line("a value at line 1", 1, "0A030008000000000000000000000000", SUM_98, "FF09010001");
+    grouped("a value in and", 1, SAME LITERAL("01"), "FF0B010007");
+    grouped("a field before a place", 1, "07150002000000000000000000000000\n" LITERAL("01")
+            "0A010001008100000000000000000001\n", "FF05010006");
+    grouped("names by equal", 1, "07150003000000000000000000000000\n"
+            "0A010001000200004152474F4C494E20\n0A010001000200004152474F4C494E20\n", "010000");
+    grouped("names by less or equal", 1, "07190003000000000000000000000000\n"
+            "0A010001000200004152474F4C494E20\n0A010001000200004152474F4C494E20\n", "FF0B010004");
+}
+
+/* Operators one in the other, each the first operand of the one around it, round this innermost record. */
+static void nested_operators(const char *what, unsigned count, const char *innermost, const char *expected)
+{
+    char text[40 * 33 + 1], *at = text;
+    unsigned records = 2 * count + 5;
+    at += sprintf(at, "0203%04X%024d\n0301%04X%024d\n0716%04X%024d\n", records, 0, records - 1, 0, records - 2, 0);
+    for (unsigned left = count; left > 0; left--)
+        at += sprintf(at, "0A03%04X%024d\n", 2 * left + 1, 0);
+    at += sprintf(at, "%s", innermost);
+    for (unsigned i = 0; i <= count; i++)
+        at += sprintf(at, LITERAL("01"));
+    expect(what, text, "", expected);
+}
+
+static void depth_of_sums(void)
+{
+    nested_operators("operands at depth 16", 12, LITERAL("01"), "010000");
+    nested_operators("operands at depth 17", 13, LITERAL("01"), "FF0C010011");
+    nested_operators("an operator without operands at depth 17", 13, "0A030001000000000000000000000000\n",
+                     "FF0B010011");
+    size_t book_len = deep_book(book, 1, 0, OPERATORS); /* which takes all the levels of a state */
+    size_t request_len = bytes_of_text("0401000700000000FFFFFFFFFFFFFDA8\n", request, sizeof request);
+    expect_bytes("50 > twelve 50s and -600", book_len, request_len, 0, "010000");
+    bytes_of_text("0401000700000000FFFFFFFFFFFFFDDA\n", request, sizeof request);
+    expect_bytes("50 > twelve 50s and -550", book_len, request_len, 0, "030000");
+}
+
+static void sums(void)
+{
+    operators();
+    comparisons_of_values();
+    attributes_of_sums();
+    sums_in_groups();
+    fields_of_sums();
+    places_of_sums();
+    depth_of_sums();
+}
+
+/* ---- Limits and refusals ----------------------------------------------------------------------------------- */
+
 /* A set of span records, and policies of one record to fill it. */
 static size_t flat(size_t records)
 {
@@ -217,12 +527,14 @@ int main(void)
 {
     worked();
     zeros();
+    sums();
     run_line();
     refusals();
     programme_of_a();
     examples("examples/a");
     examples("examples/rig");
     examples("examples/zero");
+    examples("examples/sum");
     examples("examples/refused/9");
     examples("examples/refused/10");
     examples("examples/refused/11");

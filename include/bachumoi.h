@@ -18,7 +18,9 @@ extern "C" {
  *
  *   book     book_len bytes: 1 to 1,000 records of 16 bytes, parent first
  *   request  request_len bytes: 0 to 64 entries of 16 bytes. A double is compared as C compares it: -0.0 is 0.0. A
- *            name is told by its eight bytes
+ *            name is told by its eight bytes. A sum in a condition is exact for integers and rounded once for
+ *            doubles; one that has no result (no 64 bits hold it, a divisor is 0, a double is not finite, an attribute
+ *            is missing or there twice) makes its comparison Indeterminate
  *   out      out_len bytes, for the obligations: at least twice as many bytes as the book has obligation records
  *
  * The number returned is one of two.
@@ -47,7 +49,8 @@ extern "C" {
  *                9  line 1 is no policy or set, or its span is not the record count
  *                10 a record runs past its parent's end
  *                11 a record is not allowed at that place below its parent, or has the wrong category for its section
- *                   or target
+ *                   or target; or an operator or a comparison of two values has not exactly two values of one type
+ *                   below it (an operator: of its type; names: compared by equal only)
  *                12 a record is nested deeper than 16
  *                (1 is for texts and 8 for programmes: this call gives neither; 6 is given no more)
  *   bits 16-31   line, the first that breaks the rule, counting records or entries from 1; 0 with 2, 3, 4 and 7

@@ -73,6 +73,11 @@ impl<'r> Bench<'r> {
         self.request.part()
     }
 
+    /// The piece of a sum that the next step carries out.
+    pub fn next_piece(&self, state: &[u64]) -> Option<&'static str> {
+        self.rig.piece(self.programme.part(), self.rig.place(state))
+    }
+
     /// One tick from a state; the output holds `out` before.
     pub fn tick(&self, state: &[u64], budget: u64, out: &[u16]) -> Result<Left, Difference> {
         let (mut lent_state, mut lent_out) = (Lent::new(state), Lent::new(out));

@@ -1,7 +1,15 @@
 //! Generates sound books of every shape, and single subtrees of any kind.
 
+use crate::borders::{self, Sum};
+use crate::policy::Value;
 use crate::random::Random;
 use crate::record::*;
+
+/// A sound book, and the entries of a request that take its sums to where they are meant to go.
+pub struct Book {
+    pub records: Vec<Record>,
+    pub wishes: Vec<Entry>,
+}
 
 /// What a book is to look like. Chances are in percent.
 struct Style {
@@ -25,6 +33,10 @@ struct Style {
     conditions: usize,
     /// The chance that a condition is and, or, not.
     logic: usize,
+    /// The chance that a comparison is one of two values.
+    values: usize,
+    /// The chance that a first operand is an operator, and that a second is.
+    nested: [usize; 2],
     /// The chance of must-be-present.
     must_be_present: usize,
     /// Own obligations at most.
@@ -46,6 +58,8 @@ impl Style {
             matches: random.between(1, 3),
             conditions: random.pick(&[0, 30, 60, 100]),
             logic: random.pick(&[0, 30, 60]),
+            values: random.pick(&[0, 0, 0, 50]),
+            nested: [30, 30],
             must_be_present: random.pick(&[0, 15, 50]),
             obligations: random.between(0, 3),
             target_depth: MOST_DEPTH,
@@ -77,6 +91,7 @@ impl Style {
                 }
             }
             600..=799 => Style::guarded(random, small),
+            800..=969 => Style::of_sums(random, small),
             _ => small,
         }
     }
@@ -98,6 +113,23 @@ impl Style {
             ..small
         }
     }
+
+    /// Conditions over sums, some nested as deep as may be.
+    fn of_sums(random: &mut Random, small: Style) -> Style {
+        let nested = [[0, 0], [10, 10], [10, 10], [30, 30], [30, 30], [50, 50], [95, 20], [20, 95], [98, 2], [2, 98]];
+        Style {
+            limit: random.between(8, 45),
+            root_set: 15,
+            set_depth: 1,
+            children: random.between(1, 6),
+            sections: random.pick(&[0, 0, 0, 10]),
+            conditions: 100,
+            logic: random.pick(&[0, 0, 20, 60]),
+            values: 100,
+            nested: random.pick(&nested),
+            ..small
+        }
+    }
 }
 
 struct Generator<'r> {
@@ -106,35 +138,42 @@ struct Generator<'r> {
     identifiers: Vec<u16>,
     /// The literals of each type.
     literals: [Vec<[u8; 8]>; 3],
-    records: Vec<Record>,
+    book: Book,
 }
 
 /// A sound book.
-pub fn book(random: &mut Random) -> Vec<Record> {
+pub fn book(random: &mut Random) -> Book {
     let style = Style::any(random);
     generate(random, style)
 }
 
 /// A sound book of a few dozen records at most.
-pub fn small_book(random: &mut Random) -> Vec<Record> {
+pub fn small_book(random: &mut Random) -> Book {
     let style = Style::small(random);
     generate(random, style)
 }
 
-fn generate(random: &mut Random, style: Style) -> Vec<Record> {
+/// A sound book whose conditions compare sums.
+pub fn book_of_sums(random: &mut Random) -> Book {
+    let small = Style::small(random);
+    let style = Style::of_sums(random, small);
+    generate(random, style)
+}
+
+fn generate(random: &mut Random, style: Style) -> Book {
     let mut generator = Generator::new(random, style);
     if generator.style.fill || generator.random.chance(generator.style.root_set) {
         generator.set(1);
     } else {
         generator.policy(1);
     }
-    generator.records
+    generator.book
 }
 
 /// A sound book of exactly `count` records: a generated one with obligations added to its root.
 pub fn book_of(random: &mut Random, count: usize) -> Vec<Record> {
     let style = Style { limit: random.between(1, count.min(60)), ..Style::small(random) };
-    let mut records = generate(random, style);
+    let mut records = generate(random, style).records;
     while records.len() < count {
         let effect = random.between(1, 2) as u8;
         records.push(obligation(effect, random.next() as u16));
@@ -167,9 +206,30 @@ pub fn subtree(random: &mut Random, kind: u8, category: u8) -> Vec<Record> {
         CONJUNCTION => generator.conjunction(category),
         MATCH => generator.test(MATCH, 0, category),
         CONDITION => generator.condition(depth),
+        VALUE => {
+            let value_type = generator.random.pick(&[INTEGER, INTEGER, NAME, DOUBLE]);
+            return operand(random, value_type);
+        }
         _ => generator.obligation(),
     }
-    generator.records
+    generator.book.records
+}
+
+/// A value of this type, with its operands where it is an operator.
+pub fn operand(random: &mut Random, value_type: u8) -> Vec<Record> {
+    let style = Style { limit: random.between(1, 9), nested: [50, 50], ..Style::small(random) };
+    let mut generator = Generator::new(random, style);
+    let value = borders::some_value(generator.random, value_type);
+    generator.operand(MOST_DEPTH / 2, 0, value);
+    generator.book.records
+}
+
+/// Two values compared.
+pub fn comparison_of_values(random: &mut Random) -> Vec<Record> {
+    let style = Style { limit: random.between(3, 9), ..Style::small(random) };
+    let mut generator = Generator::new(random, style);
+    generator.comparison_of_values(MOST_DEPTH / 2);
+    generator.book.records
 }
 
 /// A record of this kind and choice, with span 1.
@@ -194,8 +254,7 @@ const NAMES: [[u8; 8]; 6] =
 /// A value of this type, often one at a border.
 pub fn value(random: &mut Random, value_type: u8) -> [u8; 8] {
     let integers = [0, 1, -1, 50, 49, 51, -50, i64::MAX, i64::MIN, i64::MAX - 1, 1 << 32, -(1 << 32)];
-    let doubles =
-        [1.0, -1.0, 0.1, 5e-324, -5e-324, f64::MIN_POSITIVE, 2.5e-310, f64::MAX, f64::MIN, 1e300, 4.5, -4.5];
+    let doubles = [1.0, -1.0, 0.1, 5e-324, -5e-324, f64::MIN_POSITIVE, 2.5e-310, f64::MAX, f64::MIN, 1e300, 4.5, -4.5];
     match value_type {
         DOUBLE if random.chance(40) => random.pick(&[0.0f64, -0.0]).to_be_bytes(),
         DOUBLE if random.chance(70) => random.pick(&doubles).to_be_bytes(),
@@ -221,22 +280,23 @@ impl<'r> Generator<'r> {
         let identifiers = (0..random.between(1, 3)).map(|_| random.pick(&common)).collect();
         let literals = [INTEGER, NAME, DOUBLE]
             .map(|value_type| (0..random.between(1, 4)).map(|_| value(random, value_type)).collect());
-        Generator { random, style, identifiers, literals, records: Vec::new() }
+        let book = Book { records: Vec::new(), wishes: Vec::new() };
+        Generator { random, style, identifiers, literals, book }
     }
 
     /// The records that may still come.
     fn room(&self) -> usize {
-        self.style.limit.saturating_sub(self.records.len())
+        self.style.limit.saturating_sub(self.book.records.len())
     }
 
     fn open(&mut self, kind: u8, choice: usize) -> usize {
-        self.records.push(record(kind, choice as u8));
-        self.records.len() - 1
+        self.book.records.push(record(kind, choice as u8));
+        self.book.records.len() - 1
     }
 
     fn close(&mut self, opened: usize) {
-        let span = self.records.len() - opened;
-        self.records[opened].set_span(span);
+        let span = self.book.records.len() - opened;
+        self.book.records[opened].set_span(span);
     }
 
     fn set(&mut self, depth: usize) {
@@ -299,7 +359,7 @@ impl<'r> Generator<'r> {
     fn obligation(&mut self) {
         let number = if self.random.chance(15) { self.random.pick(&[0, 0, 1]) } else { self.random.next() as u16 };
         let effect = self.random.between(1, 2) as u8;
-        self.records.push(obligation(effect, number));
+        self.book.records.push(obligation(effect, number));
     }
 
     /// The sections of a record at this depth.
@@ -316,7 +376,7 @@ impl<'r> Generator<'r> {
 
     fn section(&mut self, category: u8) {
         let section = self.open(SECTION, 0);
-        self.records[section].0[4] = category;
+        self.book.records[section].0[4] = category;
         self.conjunction(category);
         for _ in 1..self.random.between(1, self.style.matches) {
             if self.room() >= 2 {
@@ -339,6 +399,9 @@ impl<'r> Generator<'r> {
 
     fn condition(&mut self, depth: usize) {
         if !self.random.chance(self.style.logic) {
+            if depth < MOST_DEPTH && self.room() >= 3 && self.random.chance(self.style.values) {
+                return self.comparison_of_values(depth);
+            }
             let category = self.random.between(1, 4) as u8;
             return self.test(CONDITION, COMPARISON, category);
         }
@@ -367,6 +430,74 @@ impl<'r> Generator<'r> {
         let literals = &self.literals[usize::from(value_type) - 1];
         let literal = literals[self.random.below(literals.len())];
         test.0[8..].copy_from_slice(&literal);
-        self.records.push(test);
+        self.book.records.push(test);
+    }
+
+    /// Two values compared, often a sum at a border with what it makes, or with a neighbour of that.
+    fn comparison_of_values(&mut self, depth: usize) {
+        let value_type = self.random.pick(&[INTEGER, INTEGER, INTEGER, DOUBLE, DOUBLE, DOUBLE, NAME]);
+        let function = if value_type == NAME { 1 } else { self.random.between(1, 5) };
+        let comparison = self.open(CONDITION, usize::from(COMPARISON_OF_VALUES) + function);
+        let with_sum = value_type != NAME && depth + 1 < MOST_DEPTH && self.room() >= 5;
+        if with_sum && self.random.chance(70) {
+            let sum = borders::sum(self.random, value_type);
+            let some = borders::some_value(self.random, value_type);
+            let other = borders::near(self.random, sum.result.unwrap_or(some));
+            if self.random.chance(50) {
+                self.operation(depth + 1, &sum);
+                self.operand(depth + 1, 1, other);
+            } else {
+                self.operand(depth + 1, 0, other);
+                self.operation(depth + 1, &sum);
+            }
+        } else {
+            let values = borders::to_compare(self.random, value_type);
+            self.operand(depth + 1, 0, values[0]);
+            self.operand(depth + 1, 1, values[1]);
+        }
+        self.close(comparison);
+    }
+
+    /// A first or a second operand that has this value if attributes have those wished for.
+    fn operand(&mut self, depth: usize, place: usize, value: Value) {
+        let may_nest = value.value_type() != NAME && depth < MOST_DEPTH && self.room() >= 3;
+        if may_nest && self.random.chance(self.style.nested[place]) {
+            let fails = self.random.chance(6);
+            let sum =
+                if fails { borders::sum(self.random, value.value_type()) } else { borders::making(self.random, value) };
+            self.operation(depth, &sum);
+        } else if self.random.chance(35) {
+            self.attribute(value);
+        } else {
+            self.literal(value);
+        }
+    }
+
+    fn operation(&mut self, depth: usize, sum: &Sum) {
+        let operation = self.open(VALUE, usize::from(sum.operator.choice()));
+        self.operand(depth + 1, 0, sum.operands[0]);
+        self.operand(depth + 1, 1, sum.operands[1]);
+        self.close(operation);
+    }
+
+    fn literal(&mut self, value: Value) {
+        let mut literal = record(VALUE, LITERAL);
+        literal.0[5] = value.value_type();
+        literal.0[8..].copy_from_slice(&value.bytes());
+        self.book.records.push(literal);
+    }
+
+    /// An attribute, most often one that nothing else in the book asks for.
+    fn attribute(&mut self, value: Value) {
+        let own = self.random.next() as u16;
+        let shared = self.identifiers[self.random.below(self.identifiers.len())];
+        let identifier = if self.random.chance(70) { own } else { shared };
+        let category = self.random.between(1, 4) as u8;
+        let mut attribute = record(VALUE, ATTRIBUTE);
+        let must = if self.random.chance(30) { MUST_BE_PRESENT } else { 0 };
+        attribute.0[4..6].copy_from_slice(&[category, value.value_type() + must]);
+        attribute.0[6..8].copy_from_slice(&identifier.to_be_bytes());
+        self.book.records.push(attribute);
+        self.book.wishes.push(Entry::new(category, value.value_type(), identifier, value.bytes()));
     }
 }

@@ -10,7 +10,7 @@ use crate::run::Difference;
 use crate::subject::TickAnswer;
 use crate::tally::{words, Tally, Wanted};
 
-const DAMAGES: [&str; 13] = [
+const DAMAGES: [&str; 15] = [
     "random entries",
     "sparse random entries",
     "flipped bits",
@@ -24,12 +24,20 @@ const DAMAGES: [&str; 13] = [
     "a field of the state",
     "some bits of the state",
     "random state",
+    "a piece of a sum changed",
+    "a piece of a sum put elsewhere",
 ];
+/// The last ones, which need a programme with sums.
+const OF_PIECES: usize = 2;
+
+/// Entries put where the run stands, which no step may take.
+const OUTSIDE: [&str; 2] = ["an entry of no kind", "a damaged piece of a sum"];
 
 pub fn wanted() -> Wanted {
     vec![
         ("damage", words(&DAMAGES)),
         ("outcome", words(&["finished at once", "finished", "refused at once", "refused later", "state refused"])),
+        ("refused at the next step", words(&OUTSIDE)),
     ]
 }
 
@@ -37,7 +45,11 @@ pub fn wanted() -> Wanted {
 pub fn case(machine: &Machine, random: &mut Random, tally: &mut Tally) -> Result<(), Difference> {
     let (mut programme, request) = sound_programme(machine, random)?;
     let mut state = sound_state(machine, random, &programme, &request)?;
-    let how = DAMAGES[random.below(DAMAGES.len())];
+    if random.chance(10) {
+        return outside(machine, random, (programme, request, state), tally);
+    }
+    let piece = some_piece(machine, random, &programme);
+    let how = DAMAGES[random.below(if piece.is_some() { DAMAGES.len() } else { DAMAGES.len() - OF_PIECES })];
     match how {
         "state of another run" => {
             let (other_programme, other_request) = sound_programme(machine, random)?;
@@ -46,7 +58,7 @@ pub fn case(machine: &Machine, random: &mut Random, tally: &mut Tally) -> Result
         "a field of the state" => set_field(machine, random, &mut state),
         "some bits of the state" => set_bits(random, &mut state),
         "random state" => state.iter_mut().for_each(|number| *number = sparse(random)),
-        _ => damage_programme(random, &mut programme, how),
+        _ => damage_programme(random, &mut programme, piece.unwrap_or(0), how),
     }
     // A place that is written with what it held keeps bits that no call sees, and a walk in single steps does not.
     machine.rig.cut(&mut state);
@@ -54,12 +66,33 @@ pub fn case(machine: &Machine, random: &mut Random, tally: &mut Tally) -> Result
     Walk { bench: Bench::new(machine.rig, &programme, &request), start: state }.check(random, tally)
 }
 
+/// Puts an entry outside the layout where an unfinished run stands: its next step is refused.
+fn outside(
+    machine: &Machine,
+    random: &mut Random,
+    (mut programme, request, state): (Vec<u64>, Vec<u8>, Vec<u64>),
+    tally: &mut Tally,
+) -> Result<(), Difference> {
+    let of_sum = random.below(2);
+    let stands = machine.rig.place(&state);
+    let running = Bench::new(machine.rig, &programme, &request).tick(&state, 0, &[0; PLACES])?.tick.answer;
+    if running != TickAnswer::Running || stands >= programme.len() {
+        return Ok(());
+    }
+    machine.rig.outside(random, of_sum == 1, &mut programme, stands);
+    let walk = Walk { bench: Bench::new(machine.rig, &programme, &request), start: state };
+    let budget = random.pick(&[1, 2, 300, u64::MAX]);
+    let left = walk.bench.tick(&walk.start, budget, &[0; PLACES])?;
+    tally.met("refused at the next step", OUTSIDE[of_sum]);
+    walk.must_be_refused(&left, budget)
+}
+
 /// A translated programme and a request for its book.
 fn sound_programme(machine: &Machine, random: &mut Random) -> Result<(Vec<u64>, Vec<u8>), Difference> {
-    let records = some_book(random);
-    let request = request_bytes(&requests::request(random, &records));
+    let book = some_book(random);
+    let request = request_bytes(&requests::request(random, &book));
     loop {
-        if let Some(programme) = translate(machine.rig, random, &book_bytes(&records), &mut Tally::default())? {
+        if let Some(programme) = translate(machine.rig, random, &book_bytes(&book.records), &mut Tally::default())? {
             return Ok((programme, request));
         }
     }
@@ -85,7 +118,7 @@ fn sparse(random: &mut Random) -> u64 {
     random.pick(&[0, 1, few, few >> 32, !few, u64::MAX])
 }
 
-fn damage_programme(random: &mut Random, programme: &mut Vec<u64>, how: &str) {
+fn damage_programme(random: &mut Random, programme: &mut Vec<u64>, piece: usize, how: &str) {
     let (at, other) = (random.below(programme.len()), random.below(programme.len()));
     match how {
         "random entries" => programme.iter_mut().for_each(|entry| *entry = random.next()),
@@ -98,6 +131,11 @@ fn damage_programme(random: &mut Random, programme: &mut Vec<u64>, how: &str) {
         }
         "an entry replaced" => programme[at] = sparse(random),
         "entries swapped" => programme.swap(at, other),
+        "a piece of a sum put elsewhere" => programme.swap(piece, other),
+        "a piece of a sum changed" => {
+            let bits = random.pick(&[8, 16, 64]); // its lowest bits say which piece it is
+            programme[piece] ^= 1 << random.below(bits);
+        }
         "entries dropped" => {
             programme.drain(at.min(other)..at.max(other));
         }
@@ -105,6 +143,12 @@ fn damage_programme(random: &mut Random, programme: &mut Vec<u64>, how: &str) {
         "8,008 entries" => lengthen(random, programme, MOST_ENTRIES),
         _ => lengthen(random, programme, MOST_ENTRIES + 1),
     }
+}
+
+/// The place of some piece of a sum.
+fn some_piece(machine: &Machine, random: &mut Random, programme: &[u64]) -> Option<usize> {
+    let pieces: Vec<usize> = (0..programme.len()).filter(|&at| machine.rig.piece(programme, at).is_some()).collect();
+    (!pieces.is_empty()).then(|| random.pick(&pieces))
 }
 
 /// Lengthens a programme with its own entries, or with random ones.

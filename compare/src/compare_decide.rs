@@ -31,10 +31,10 @@ pub fn wanted() -> Wanted {
 
 /// Decides one generated book on one request.
 pub fn case(host: &dyn Host, random: &mut Random, tally: &mut Tally) -> Result<(), Difference> {
-    let records = books::book(random);
-    let entries = requests::request(random, &records);
-    let out = room(random, needed(&records), tally);
-    let book = if random.chance(6) { damage::book(random, records) } else { book_bytes(&records) };
+    let book = books::book(random);
+    let entries = requests::request(random, &book);
+    let out = room(random, needed(&book.records), tally);
+    let book = if random.chance(6) { damage::book(random, book.records) } else { book_bytes(&book.records) };
     let request = if random.chance(6) { damage::request(random, entries) } else { request_bytes(&entries) };
     check(host, &book, &request, &out, tally)
 }

@@ -1,8 +1,9 @@
 //! The comparison of judging.
 
 use crate::books;
+use crate::causes::wanted_causes;
 use crate::damage;
-use crate::judge::{self, refusals_of, wanted_causes};
+use crate::judge::{self, refusals_of};
 use crate::lent::Lent;
 use crate::random::Random;
 use crate::record::{book_bytes, request_bytes};
@@ -20,6 +21,7 @@ pub fn wanted() -> Wanted {
         (refusals_of(Part::Request), numbers([2, 4, 5])),
         (AT_LINE_1, numbers([5, 9])),
         ("depth of an accepted book", numbers(1..=16)),
+        ("depth of the deepest value of an accepted book", numbers(4..=16)),
         ("records of an accepted book", numbers([1, 2, 3, 998, 999, 1000])),
         ("entries of an accepted request", numbers([0, 1, 2, 63, 64])),
     ]);
@@ -30,13 +32,13 @@ const AT_LINE_1: &str = "refusals at line 1";
 
 /// Judges one generated book or request.
 pub fn case(library: &dyn Judge, random: &mut Random, tally: &mut Tally) -> Result<(), Difference> {
-    let records = if random.chance(50) { books::small_book(random) } else { books::book(random) };
+    let book = if random.chance(50) { books::small_book(random) } else { books::book(random) };
     if random.chance(25) {
-        let entries = requests::request(random, &records);
+        let entries = requests::request(random, &book);
         let bytes = if random.chance(25) { request_bytes(&entries) } else { damage::request(random, entries) };
         return check_request(library, &bytes, tally);
     }
-    let bytes = if random.chance(15) { book_bytes(&records) } else { damage::book(random, records) };
+    let bytes = if random.chance(15) { book_bytes(&book.records) } else { damage::book(random, book.records) };
     check_book(library, &bytes, tally)
 }
 
@@ -45,6 +47,7 @@ pub fn check_book(library: &dyn Judge, bytes: &[u8], tally: &mut Tally) -> Resul
         Ok(accepted) => {
             tally.met("accepted", "book");
             tally.met("depth of an accepted book", accepted.depth as u64);
+            tally.met("depth of the deepest value of an accepted book", accepted.values as u64);
             if accepted.records <= 3 || accepted.records >= 998 {
                 tally.met("records of an accepted book", accepted.records as u64);
             }

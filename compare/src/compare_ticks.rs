@@ -1,19 +1,20 @@
 //! The comparison of translating and running over ticks.
 
 use crate::bench::{Bench, Left, Machine, MOST_ENTRIES, PLACES};
-use crate::books;
+use crate::books::{self, Book};
 use crate::compare_decide::bytes_of;
 use crate::damage;
 use crate::decide;
+use crate::expression::wanted_sums;
 use crate::judge::{self, refusals_of};
 use crate::lent::Lent;
 use crate::paper;
 use crate::random::Random;
-use crate::record::{book_bytes, request_bytes, Record};
+use crate::record::{book_bytes, request_bytes};
 use crate::refusal::{refuse, too_short, Part, Refusal};
 use crate::requests;
 use crate::run::{hex, Difference};
-use crate::subject::{Rig, TickAnswer};
+use crate::subject::{Rig, TickAnswer, PIECES};
 use crate::tally::{numbers, words, Tally, Wanted};
 use crate::truth::wanted_zeros;
 
@@ -22,6 +23,7 @@ const DEALINGS: [&str; 8] =
 
 pub fn wanted() -> Wanted {
     let mut wanted = wanted_zeros();
+    wanted.extend(wanted_sums());
     wanted.extend([
         ("translated", words(&["exact room", "more room"])),
         (refusals_of(Part::Book), numbers([2, 3, 4, 5, 9, 10, 11, 12])),
@@ -30,37 +32,43 @@ pub fn wanted() -> Wanted {
         ("answer", words(&["Permit", "Deny", "NotApplicable", "Indeterminate"])),
         ("obligations", words(&["none", "one", "several"])),
         ("refused tick", numbers([2, 4, 5, 7, 8])),
+        (CUT, words(&PIECES)),
     ]);
     wanted
 }
 
+const CUT: &str = "tick that ends before a piece of a sum";
+
 /// Translates one generated book and runs it on one request; now and then a damaged book before it.
 pub fn case(machine: &Machine, random: &mut Random, tally: &mut Tally) -> Result<(), Difference> {
     if random.chance(4) {
-        let records = some_book(random);
-        let damaged = damage::book(random, records);
+        let book = some_book(random);
+        let damaged = damage::book(random, book.records);
         translate(machine.rig, random, &damaged, tally)?;
     }
-    let records = some_book(random);
-    let request = request_bytes(&requests::request(random, &records));
-    let book = book_bytes(&records);
+    let made = some_book(random);
+    let request = request_bytes(&requests::request(random, &made));
+    let book = book_bytes(&made.records);
     let programme = loop {
         if let Some(programme) = translate(machine.rig, random, &book, tally)? {
             break programme;
         }
     };
-    tally.add("totals", "records".into(), records.len() as u64);
+    tally.add("totals", "records".into(), made.records.len() as u64);
     tally.add("totals", "entries".into(), programme.len() as u64);
     Run { machine, book: &book, bench: Bench::new(machine.rig, &programme, &request) }.check(random, tally)
 }
 
-pub fn some_book(random: &mut Random) -> Vec<Record> {
-    if random.chance(85) {
-        books::small_book(random)
-    } else {
-        books::book(random)
+pub fn some_book(random: &mut Random) -> Book {
+    match random.below(100) {
+        0..=69 => books::small_book(random),
+        70..=84 => books::book_of_sums(random),
+        _ => books::book(random),
     }
 }
+
+/// Entries for each record of a book, at most: what is promised of every programme, well below 8n + 8.
+const MOST_A_RECORD: usize = 4;
 
 /// Translates: the programme, or nothing where the call is rightly refused.
 pub fn translate(
@@ -93,7 +101,7 @@ pub fn translate(
         };
     }
     let entries = (got / 256) as usize;
-    if got % 256 != 0 || entries == 0 || entries > needed {
+    if got % 256 != 0 || entries == 0 || entries > MOST_A_RECORD * (book.len() / 16) {
         return wrong("no number of entries");
     }
     if programme[entries..] != before[entries..] {
@@ -199,6 +207,9 @@ impl Run<'_> {
             left_over -= left.tick.steps;
             if left_over > 0 && left.tick.answer != TickAnswer::Running {
                 return Err(self.bench.difference("answered before the end", &state, budget, &left));
+            }
+            if let (TickAnswer::Running, Some(piece)) = (left.tick.answer, self.bench.next_piece(&left.state)) {
+                tally.met(CUT, piece);
             }
             if left_over == 0 {
                 let same = left.tick.answer == whole.tick.answer && left.out == whole.out && left.state == whole.state;

@@ -1,13 +1,13 @@
 //! Damages sound books and requests, in one way or several.
 
-use crate::books::{book_of, nested_sets, record, subtree};
+use crate::books::{book_of, book_of_sums, comparison_of_values, nested_sets, operand, record, subtree};
 use crate::judge::is_test;
 use crate::random::Random;
 use crate::record::*;
 
 /// The bytes of a damaged book; some damage leaves it sound.
 pub fn book(random: &mut Random, mut records: Vec<Record>) -> Vec<u8> {
-    match random.below(20) {
+    match random.below(24) {
         0 => return Vec::new(),
         1 => records = of_awkward_size(random),
         2..=4 => graft(random, &mut records),
@@ -18,6 +18,9 @@ pub fn book(random: &mut Random, mut records: Vec<Record>) -> Vec<u8> {
         10 => records = as_root(random, &records),
         11 => graft_past_end(random, &mut records),
         12 => records = too_deep(random),
+        13..=15 => return spoilt_sums(random),
+        16..=17 => records = book_of_sums(random).records,
+        18 => return grafted_sum(random, records),
         _ => {}
     }
     for _ in 0..random.pick(&[0, 1, 1, 1, 2]) {
@@ -143,15 +146,18 @@ fn wrong_category(random: &mut Random, records: &mut [Record], near: usize) {
 /// Breaks one field rule of a sound record.
 fn break_field(random: &mut Random, record: &mut Record) {
     let test = is_test(record);
+    let (literal, attribute) = (record.is_literal(), record.is_attribute());
+    let has_category = test || attribute || record.kind() == SECTION;
     let function_base = if record.kind() == MATCH { 0 } else { COMPARISON };
     match random.below(9) {
-        0 => record.0[0] = random.pick(&[0, 9, 10, 17, 18, 128, 255]),
-        1 => record.0[1] = random.pick(&[0, 3, 4, 5, 6, 10, 16, 128, 255]),
+        0 => record.0[0] = random.pick(&[0, 9, 11, 17, 18, 128, 255]),
+        1 => record.0[1] = random.pick(&[0, 3, 4, 5, 6, 9, 10, 16, 20, 26, 128, 255]),
         2 => record.set_span(random.pick(&[0, 0, 1, 2, 256])),
-        3 if test || record.kind() == SECTION => record.0[4] = random.pick(&[0, 5, 128, 255]),
-        4 if test => record.0[5] = random.pick(&[0, 4, 64, 127, 128, 132, 255]),
-        5 if test => {
-            record.0[5] = DOUBLE + random.pick(&[0, MUST_BE_PRESENT]);
+        3 if has_category => record.0[4] = random.pick(&[0, 5, 128, 255]),
+        4 if literal && random.chance(50) => record.0[5] += MUST_BE_PRESENT,
+        4 if test || literal || attribute => record.0[5] = random.pick(&[0, 4, 64, 127, 128, 132, 255]),
+        5 if test || literal => {
+            record.0[5] = DOUBLE + if literal { 0 } else { random.pick(&[0, MUST_BE_PRESENT]) };
             record.0[8..].copy_from_slice(&unbounded(random));
         }
         6 if test => {
@@ -205,9 +211,11 @@ fn graft(random: &mut Random, records: &mut Vec<Record>) {
         let kind = random.pick(&[RULE, SECTION, CONDITION]);
         graft_kind(random, records, kind);
     }
-    let kind = random.between(1, 8) as u8;
+    let kind = random.pick(&KINDS);
     graft_kind(random, records, kind);
 }
+
+const KINDS: [u8; 9] = [SET, POLICY, RULE, SECTION, CONJUNCTION, MATCH, CONDITION, OBLIGATION, VALUE];
 
 /// Gives the place of the new subtree, and its parent.
 fn graft_kind(random: &mut Random, records: &mut Vec<Record>, kind: u8) -> (usize, usize) {
@@ -222,7 +230,7 @@ fn graft_kind(random: &mut Random, records: &mut Vec<Record>, kind: u8) -> (usiz
 
 /// A new subtree that also runs past its parent's end: often two rules broken at one line.
 fn graft_past_end(random: &mut Random, records: &mut Vec<Record>) {
-    let kind = random.pick(&[SET, POLICY, RULE, SECTION, SECTION, CONJUNCTION, CONDITION, CONDITION]);
+    let kind = random.pick(&[SET, POLICY, RULE, SECTION, SECTION, CONJUNCTION, CONDITION, CONDITION, VALUE]);
     let (at, parent) = graft_kind(random, records, kind);
     run_past(random, records, at, parent);
 }
@@ -253,12 +261,16 @@ fn too_deep(random: &mut Random) -> Vec<Record> {
     };
     let mut records = vec![record(SET, random.between(1, 4) as u8); MOST_DEPTH - inner.len()];
     records.extend(inner);
-    let kind = random.between(1, 8) as u8;
+    let kind = random.pick(&KINDS);
     let child = if random.chance(70) { category } else { random.between(1, 4) as u8 };
-    records.extend(subtree(random, kind, child));
+    let new = if random.chance(25) { comparison_of_values(random) } else { subtree(random, kind, child) };
+    records.extend(new);
     let count = records.len();
     for above in 0..MOST_DEPTH {
         records[above].set_span(count - above);
+    }
+    if random.chance(60) {
+        spoil(random, &mut records, MOST_DEPTH);
     }
     if random.chance(50) {
         run_past(random, &mut records, MOST_DEPTH, MOST_DEPTH - 1);
@@ -308,7 +320,7 @@ fn wrap(random: &mut Random, mut records: Vec<Record>) -> Vec<Record> {
 /// A subtree of the book alone, or a new one of any kind.
 fn as_root(random: &mut Random, records: &[Record]) -> Vec<Record> {
     if random.chance(50) {
-        let kind = random.between(1, 8) as u8;
+        let kind = random.pick(&KINDS);
         let category = random.between(1, 4) as u8;
         return subtree(random, kind, category);
     }
@@ -324,4 +336,97 @@ fn of_awkward_size(random: &mut Random) -> Vec<Record> {
     }
     let count = random.pick(&[999, 1000, 1001, 1002, 1100]);
     book_of(random, count)
+}
+
+// Damage to operands
+
+/// The bytes of a book of sums in which one operator or comparison has wrong operands, or an operand runs past its
+/// end; sometimes with depths near 16.
+fn spoilt_sums(random: &mut Random) -> Vec<u8> {
+    let mut records = book_of_sums(random).records;
+    if random.chance(30) {
+        records = wrap(random, records);
+    }
+    let takers: Vec<usize> = (1..records.len()).filter(|&at| records[at].takes_operands()).collect();
+    let deep = takers.iter().copied().find(|&at| ancestors(&records, at).len() == MOST_DEPTH);
+    match deep {
+        _ if takers.is_empty() => {}
+        Some(at) if random.chance(40) => spoil(random, &mut records, at),
+        _ if random.chance(30) => past_end(random, &mut records),
+        _ => {
+            let at = random.pick(&takers);
+            spoil(random, &mut records, at);
+        }
+    }
+    book_bytes(&records)
+}
+
+/// The bytes of a book with an operator or a comparison of values under a record that takes none, often with wrong
+/// operands; sometimes it runs past its parent's end.
+fn grafted_sum(random: &mut Random, mut records: Vec<Record>) -> Vec<u8> {
+    let parents: Vec<usize> =
+        (0..records.len()).filter(|&at| !records[at].is_leaf() && !records[at].takes_operands()).collect();
+    let parent = random.pick(&parents);
+    let value_type = random.pick(&[INTEGER, DOUBLE]);
+    let new = if random.chance(60) { comparison_of_values(random) } else { operand(random, value_type) };
+    let at = random.pick(&boundaries(&records, parent));
+    insert_under(&mut records, parent, at, &new);
+    if random.chance(50) {
+        spoil(random, &mut records, at);
+    }
+    if random.chance(30) {
+        run_past(random, &mut records, at, parent);
+    }
+    book_bytes(&records)
+}
+
+/// Gives the operator or comparison of values at `taker`, if it is one, operands that it does not take.
+fn spoil(random: &mut Random, records: &mut Vec<Record>, taker: usize) {
+    if !records[taker].takes_operands() {
+        return;
+    }
+    let at = random.pick(&boundaries(records, taker)[..2]);
+    let value_type = records[taker + 1].operand_type().unwrap_or(INTEGER);
+    let other_type = (value_type + random.between(0, 1) as u8) % 3 + 1;
+    match random.below(10) {
+        0 => drop(take_subtree(records, at)),
+        1 => (0..2).for_each(|_| drop(take_subtree(records, taker + 1))),
+        2 | 3 => {
+            for _ in 0..random.between(1, 3) {
+                let more = operand(random, value_type);
+                let at = random.pick(&boundaries(records, taker));
+                insert_under(records, taker, at, &more);
+            }
+        }
+        4..=6 => {
+            let other = operand(random, other_type);
+            replace_subtree(records, taker, at, &other);
+        }
+        7 => replace_both(random, records, taker, other_type),
+        8 => {
+            if records[taker].is_comparison_of_values() {
+                records[taker].0[1] = COMPARISON_OF_VALUES + random.between(2, 5) as u8;
+            }
+            replace_both(random, records, taker, NAME);
+        }
+        _ => {
+            let (kind, category) = (random.pick(&KINDS[..8]), random.between(1, 4) as u8);
+            let other = subtree(random, kind, category);
+            replace_subtree(records, taker, at, &other);
+        }
+    }
+}
+
+fn replace_subtree(records: &mut Vec<Record>, parent: usize, at: usize, new: &[Record]) {
+    take_subtree(records, at);
+    insert_under(records, parent, at, new);
+}
+
+/// Both operands become values of this type.
+fn replace_both(random: &mut Random, records: &mut Vec<Record>, taker: usize, value_type: u8) {
+    for place in [0, 1] {
+        let new = operand(random, value_type);
+        let at = boundaries(records, taker)[place];
+        replace_subtree(records, taker, at, &new);
+    }
 }

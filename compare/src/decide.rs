@@ -1,20 +1,27 @@
 //! Deciding: rules, policies and sets of document 01's section "What is decided".
 
+use crate::expression::wanted_sums;
 use crate::judge::{self, Refused};
 use crate::obligations::{bare, wanted_obligations, Answer, CHILD_OF_ONLY_ONE};
 use crate::policy::*;
 use crate::refusal::too_short;
+use crate::sums::{self, Apply};
 use crate::tally::{pairs, Tally, Wanted};
 use crate::truth::{wanted_truths, Evaluator, Truth};
 use Decision::{Deny, Indeterminate, NotApplicable, Permit};
 
 /// What the C host is to answer, with `out` as it is to be afterwards.
 pub fn host_call(book: &[u8], request: &[u8], out: &mut [u8], tally: &mut Tally) -> u64 {
+    host_call_by(sums::apply, book, request, out, tally)
+}
+
+/// The same with operators carried out by `apply`.
+pub fn host_call_by(apply: Apply, book: &[u8], request: &[u8], out: &mut [u8], tally: &mut Tally) -> u64 {
     if let Err(refused) = judge_call(book, request, out.len() / 2) {
         refused.count(tally);
         return refused.refusal.packed();
     }
-    let (answer, _) = decide(book, request, tally);
+    let (answer, _) = decide_by(apply, book, request, tally);
     out.fill(0);
     for (pair, number) in out.chunks_mut(2).zip(&answer.obligations) {
         pair.copy_from_slice(&number.to_be_bytes());
@@ -34,9 +41,14 @@ fn judge_call(book: &[u8], request: &[u8], places: usize) -> Result<(), Refused>
 
 /// Decides an accepted book on an accepted request. Also gives the number of records looked at.
 pub fn decide(book: &[u8], request: &[u8], tally: &mut Tally) -> (Answer, u64) {
+    decide_by(sums::apply, book, request, tally)
+}
+
+/// The same with operators carried out by `apply`.
+pub fn decide_by(apply: Apply, book: &[u8], request: &[u8], tally: &mut Tally) -> (Answer, u64) {
     let attributes = attributes(request);
     let root = tree(book);
-    let mut evaluator = Evaluator { attributes: &attributes, tally, asides: 0, looked_at: 0 };
+    let mut evaluator = Evaluator { attributes: &attributes, tally, apply, asides: 0, waiting: 0, looked_at: 0 };
     let answer = evaluator.policy(&root);
     evaluator.met("decision of the root", (root.name(), answer.decision.name()));
     evaluator.count_answer(&answer);
@@ -259,6 +271,7 @@ pub fn wanted() -> Wanted {
     let decisions = ["Permit", "Deny", "NotApplicable", "Indeterminate"];
     let effects = ["Permit", "Deny"];
     let mut wanted = wanted_truths();
+    wanted.extend(wanted_sums());
     wanted.extend(wanted_obligations());
     wanted.extend([
         ("decision of the root", pairs(&["policy", "set"], &decisions)),

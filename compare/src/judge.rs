@@ -3,9 +3,10 @@
 //! A refusal by 5 or by 9 to 12 names every rule that the refused line breaks, so that a run can count
 //! the lines that break one rule alone, and those that break several.
 
+use crate::operands::{by_parents, found_one_way, wrong_operands, FOUND, WRONG_OPERANDS};
 use crate::record::*;
 use crate::refusal::{refuse, Part, Refusal};
-use crate::tally::{numbers, pairs, triples, words, Item, Tally, Wanted};
+use crate::tally::{Item, Tally};
 use std::cmp::Ordering;
 
 /// A rule that a line breaks: a group and an item of the tally.
@@ -19,6 +20,8 @@ pub struct Accepted {
     pub records: usize,
     pub obligations: usize,
     pub depth: usize,
+    /// The depth of the deepest value, 0 where there is none.
+    pub values: usize,
 }
 
 #[derive(Debug)]
@@ -27,12 +30,14 @@ pub struct Refused {
     pub causes: Vec<Cause>,
     /// Of a book that 5 refuses: what would refuse it but for its fields.
     pub passed_over: Option<Refusal>,
+    /// Of a book that a place rule refuses: how operands are found that are not found in the other way.
+    pub found: Option<&'static str>,
 }
 
 impl Refused {
     /// A refusal that is of no line.
     pub fn without_line(refusal: Refusal) -> Refused {
-        Refused { refusal, causes: Vec::new(), passed_over: None }
+        Refused { refusal, causes: Vec::new(), passed_over: None, found: None }
     }
 
     /// Counts the refusal, and its cause where it has only one; of place rules also two or three at once.
@@ -40,21 +45,35 @@ impl Refused {
         tally.met(refusals_of(self.refusal.part), self.refusal.number);
         match self.causes[..] {
             [(group, item)] => tally.met(group, item),
-            [(first, _), (second, _)] if self.refusal.number >= 9 => tally.met(TWO_RULES, (first, second)),
+            [(first, _), (second, _)] if self.refusal.number >= 9 => {
+                tally.met(TWO_RULES, (rule_of(first), rule_of(second)))
+            }
             [(first, _), (second, _), (third, _)] if self.refusal.number >= 9 => {
-                tally.met(THREE_RULES, (first, second, third))
+                tally.met(THREE_RULES, (rule_of(first), rule_of(second), rule_of(third)))
             }
             _ => {}
         }
         if let Some(place) = self.passed_over {
             tally.met(PASSED_OVER, (rule_word(place.number), line_word(place.line, self.refusal.line)));
         }
+        if let Some(how) = self.found {
+            tally.met(FOUND, how);
+        }
     }
 }
 
-const TWO_RULES: &str = "two place rules at one line";
-const THREE_RULES: &str = "three place rules at one line";
-const PASSED_OVER: &str = "place rule in a book that 5 refuses";
+pub const TWO_RULES: &str = "two place rules at one line";
+pub const THREE_RULES: &str = "three place rules at one line";
+pub const PASSED_OVER: &str = "place rule in a book that 5 refuses";
+
+/// The rule of a cause, for those that stand at one line with another.
+fn rule_of(group: &'static str) -> &'static str {
+    if WRONG_OPERANDS.contains(&group) {
+        "11: wrong operands"
+    } else {
+        group
+    }
+}
 
 fn rule_word(number: u64) -> &'static str {
     match number {
@@ -95,9 +114,11 @@ pub fn book(bytes: &[u8]) -> Result<Accepted, Refused> {
         refused.passed_over = places.err().map(|place| place.refusal);
         return Err(refused);
     }
-    let depth = places?;
+    let depths = places?;
     let obligations = records.iter().filter(|record| record.kind() == OBLIGATION).count();
-    Ok(Accepted { records: records.len(), obligations, depth })
+    let values = records.iter().zip(&depths).filter(|(record, _)| record.kind() == VALUE).map(|(_, &depth)| depth);
+    let values = values.max().unwrap_or(0);
+    Ok(Accepted { records: records.len(), obligations, depth: depths.into_iter().max().unwrap_or(1), values })
 }
 
 /// Judges a request: 4, 2, then the first entry with 5. Gives the number of entries.
@@ -128,7 +149,7 @@ fn line_without(causes: Vec<Cause>, number: u64, part: Part, line: usize) -> Res
     if causes.is_empty() {
         return Ok(());
     }
-    Err(Refused { refusal: Refusal { number, part, line }, causes, passed_over: None })
+    Err(Refused { refusal: Refusal { number, part, line }, causes, passed_over: None, found: None })
 }
 
 // Field rules
@@ -150,7 +171,8 @@ fn field_faults(record: &Record) -> Vec<Cause> {
         RULE | OBLIGATION => &[1, 2],
         SECTION | CONJUNCTION => &[0],
         MATCH => &[1, 2, 3, 4, 5],
-        CONDITION => &[1, 2, 3, 11, 12, 13, 14, 15],
+        CONDITION => &[1, 2, 3, 11, 12, 13, 14, 15, 21, 22, 23, 24, 25],
+        VALUE => &[1, 2, 3, 4, 5, 6, 7, 8],
         _ => return vec![("field: kind", "unknown".into())],
     };
     let mut faults = Vec::new();
@@ -158,10 +180,27 @@ fn field_faults(record: &Record) -> Vec<Cause> {
         faults.push(("field: span 0", name.into()));
     }
     if !choices.contains(&record.choice()) {
-        let kind = if name == "comparison" { "condition" } else { name };
-        faults.push(("field: choice", kind.into()));
+        faults.push(("field: choice", name.into()));
         return faults;
     }
+    span_faults(record, &mut faults);
+    if record.kind() == SECTION || is_test(record) || record.is_attribute() {
+        category_fault(record.category(), name, &mut faults);
+    }
+    if is_test(record) {
+        test_faults(record, &mut faults);
+    }
+    if record.is_literal() || record.is_attribute() {
+        value_faults(record, &mut faults);
+    }
+    let unused = unused_bytes(record).into_iter().filter(|&place| record.0[place] != 0);
+    faults.extend(unused.map(|place| (unused_group(name), Item::Number(place as u64))));
+    faults
+}
+
+/// A span that the kind cannot have. Operators and comparisons of values have no least span but 1.
+fn span_faults(record: &Record, faults: &mut Vec<Cause>) {
+    let name = record.name();
     if record.is_leaf() && record.span() > 1 {
         faults.push(("field: span not 1", name.into()));
     }
@@ -170,15 +209,6 @@ fn field_faults(record: &Record) -> Vec<Cause> {
     if has_children && record.span() == 1 {
         faults.push(("field: span below 2", if is_not { "not" } else { name }.into()));
     }
-    if record.kind() == SECTION || is_test(record) {
-        category_fault(record.category(), name, &mut faults);
-    }
-    if is_test(record) {
-        test_faults(record, &mut faults);
-    }
-    let unused = unused_bytes(record).into_iter().filter(|&place| record.0[place] != 0);
-    faults.extend(unused.map(|place| (unused_group(name), Item::Number(place as u64))));
-    faults
 }
 
 /// A match or a comparison: it has an attribute, a function and a literal.
@@ -206,6 +236,21 @@ fn test_faults(record: &Record, faults: &mut Vec<Cause>) {
     }
 }
 
+/// Type and finite value of a literal, type of an attribute.
+fn value_faults(record: &Record, faults: &mut Vec<Cause>) {
+    let name = record.name();
+    match record.type_byte() % MUST_BE_PRESENT {
+        INTEGER | NAME | DOUBLE => {}
+        _ => faults.push(("field: type", name.into())),
+    }
+    if record.is_literal() && record.type_byte() >= MUST_BE_PRESENT {
+        faults.push(("field: type", "literal that must be present".into()));
+    }
+    if record.is_literal() && record.type_byte() % MUST_BE_PRESENT == DOUBLE && !is_finite(record.value()) {
+        faults.push(("field: value not finite", name.into()));
+    }
+}
+
 /// The places of the bytes that a record of this kind does not use.
 fn unused_bytes(record: &Record) -> Vec<usize> {
     match record.kind() {
@@ -213,11 +258,13 @@ fn unused_bytes(record: &Record) -> Vec<usize> {
         CONDITION if record.is_comparison() => Vec::new(),
         SECTION => (5..16).collect(),
         OBLIGATION => (4..6).chain(8..16).collect(),
+        VALUE if record.is_literal() => vec![4, 6, 7],
+        VALUE if record.is_attribute() => (8..16).collect(),
         _ => (4..16).collect(),
     }
 }
 
-fn unused_group(name: &'static str) -> &'static str {
+pub fn unused_group(name: &'static str) -> &'static str {
     match name {
         "set" => "field: unused byte of a set",
         "policy" => "field: unused byte of a policy",
@@ -225,6 +272,10 @@ fn unused_group(name: &'static str) -> &'static str {
         "section" => "field: unused byte of a section",
         "conjunction" => "field: unused byte of a conjunction",
         "condition" => "field: unused byte of and, or, not",
+        "comparison of values" => "field: unused byte of a comparison of values",
+        "literal" => "field: unused byte of a literal",
+        "attribute" => "field: unused byte of an attribute",
+        "operator" => "field: unused byte of an operator",
         _ => "field: unused byte of an obligation",
     }
 }
@@ -253,21 +304,30 @@ fn placed_without(faults: Vec<Fault>, line: usize) -> Result<(), Refused> {
     line_without(causes, lowest, Part::Book, line)
 }
 
-/// Refuses the first line that breaks a place rule. Gives the depth of the deepest line.
-fn judge_places(records: &[Record]) -> Result<usize, Refused> {
+/// Refuses the first line that breaks a place rule. Gives the depths of all lines.
+fn judge_places(records: &[Record]) -> Result<Vec<usize>, Refused> {
     placed_without(line_1_faults(records), 1)?;
+    let parents = parents(records);
     let mut depth = vec![1; records.len()];
-    let mut parents = vec![0; records.len()];
     for at in 1..records.len() {
-        let covers = |&earlier: &usize| earlier + records[earlier].span() > at;
-        let parent = (0..at).rev().find(covers).expect("line 1 covers every line");
-        parents[at] = parent;
+        let parent = parents[at];
         depth[at] = depth[parent] + 1;
         let previous = (parent + 1..at).rev().find(|&earlier| parents[earlier] == parent);
-        let place = Place { records, at, parent, previous, depth: depth[at] };
-        placed_without(place.faults(), at + 1)?;
+        let place = Place { records, parents: &parents, at, previous, depth: depth[at] };
+        placed_without(place.faults(), at + 1)
+            .map_err(|refused| Refused { found: place.found(refused.refusal.number), ..refused })?;
     }
-    Ok(depth.into_iter().max().unwrap_or(1))
+    Ok(depth)
+}
+
+/// The parent of every line but the first: the innermost earlier record whose span covers it.
+fn parents(records: &[Record]) -> Vec<usize> {
+    let parent = |at: usize| {
+        let covers = |&earlier: &usize| earlier + records[earlier].span() > at;
+        (0..at).rev().find(covers).expect("line 1 covers every line")
+    };
+    let after_the_first = (1..records.len()).map(parent);
+    std::iter::once(0).chain(after_the_first).collect()
 }
 
 fn line_1_faults(records: &[Record]) -> Vec<Fault> {
@@ -285,35 +345,50 @@ fn line_1_faults(records: &[Record]) -> Vec<Fault> {
     faults
 }
 
-/// A line after the first, with the line of its parent and of its parent's child before it.
+/// A line after the first, with the line of its parent's child before it.
 struct Place<'a> {
     records: &'a [Record],
+    parents: &'a [usize],
     at: usize,
-    parent: usize,
     previous: Option<usize>,
     depth: usize,
 }
 
 impl Place<'_> {
+    fn parent(&self) -> usize {
+        self.parents[self.at]
+    }
+
     fn faults(&self) -> Vec<Fault> {
         let record = self.records[self.at];
         let name = record.name();
         let mut faults = Vec::new();
-        if self.at + record.span() > self.parent + self.records[self.parent].span() {
+        if self.at + record.span() > self.parent() + self.records[self.parent()].span() {
             faults.push((10, ("10: past the parent's end", name.into())));
         }
         faults.extend(self.not_allowed().map(|cause| (11, cause)));
         faults.extend(self.wrong_category().map(|cause| (11, cause)));
+        if record.takes_operands() {
+            let operands = by_parents(self.records, self.parents, self.at);
+            faults.extend(wrong_operands(&record, &operands).map(|cause| (11, cause)));
+        }
         if self.depth > MOST_DEPTH {
             faults.push((12, ("12: too deep", name.into())));
         }
         faults
     }
 
+    /// Of a line that is refused by this number: how operands are found that are not found in the other way.
+    fn found(&self, number: u64) -> Option<&'static str> {
+        let taker = if number == 10 { self.parent() } else { self.at };
+        let takes = self.records[taker].takes_operands();
+        takes.then(|| found_one_way(self.records, self.parents, taker)).flatten()
+    }
+
     /// The parent does not allow this kind, or not after what stands before it.
     fn not_allowed(&self) -> Option<Cause> {
         let record = self.records[self.at];
-        let parent = self.records[self.parent];
+        let parent = self.records[self.parent()];
         let previous = self.previous.map(|earlier| self.records[earlier]);
         let (name, before) = (record.name(), previous.map_or("nothing", |earlier| earlier.name()));
         // The child's place in the order of the parent's children: it may not stand after a later one.
@@ -321,7 +396,9 @@ impl Place<'_> {
             (SET | POLICY | RULE, SECTION) => Some(1),
             (SET, SET | POLICY) | (POLICY, RULE) | (RULE, CONDITION) => Some(2),
             (SET | POLICY, OBLIGATION) => Some(3),
-            (SECTION, CONJUNCTION) | (CONJUNCTION, MATCH) | (CONDITION, CONDITION) => Some(1),
+            (SECTION, CONJUNCTION) | (CONJUNCTION, MATCH) => Some(1),
+            (CONDITION, CONDITION) if !parent.takes_operands() => Some(1),
+            (CONDITION | VALUE, VALUE) if parent.takes_operands() => Some(1),
             _ => None,
         };
         let place = match order(&record) {
@@ -345,7 +422,7 @@ impl Place<'_> {
     /// Sections of one target rise; a match has its section's category.
     fn wrong_category(&self) -> Option<Cause> {
         let record = self.records[self.at];
-        let parent = self.records[self.parent];
+        let parent = self.records[self.parent()];
         let earlier = self.previous.map(|earlier| self.records[earlier]);
         match (record.kind(), earlier) {
             (SECTION, Some(earlier)) if earlier.kind() == SECTION && earlier.category() >= record.category() => {
@@ -353,7 +430,7 @@ impl Place<'_> {
                 Some(("11: category of a section after one", how.into()))
             }
             (MATCH, _) if parent.kind() == CONJUNCTION => {
-                let section = (0..self.parent).rev().find(|&line| line + self.records[line].span() > self.at);
+                let section = (0..self.parent()).rev().find(|&line| line + self.records[line].span() > self.at);
                 let section = self.records[section.expect("a conjunction has a section")];
                 let differs = section.category() != record.category();
                 differs.then(|| ("11: category of a match", "not its section's".into()))
@@ -361,73 +438,4 @@ impl Place<'_> {
             _ => None,
         }
     }
-}
-
-/// Every cause that a run of comparisons must meet as the only cause of a refusal.
-pub fn wanted_causes() -> Wanted {
-    let all = ["set", "policy", "rule", "section", "conjunction", "match", "condition", "comparison", "obligation"];
-    let mut wanted = vec![
-        ("field: kind", words(&["unknown"])),
-        (
-            "field: choice",
-            words(&["set", "policy", "rule", "section", "conjunction", "match", "condition", "obligation"]),
-        ),
-        ("field: span 0", words(&all)),
-        ("field: span not 1", words(&["match", "comparison", "obligation"])),
-        ("field: span below 2", words(&["section", "conjunction", "not"])),
-        ("field: category", words(&["section", "match", "comparison", "entry"])),
-        ("field: type", words(&["match", "comparison", "entry"])),
-        ("field: value not finite", words(&["match", "comparison", "entry"])),
-        ("field: function of a name", words(&["match", "comparison"])),
-        ("field: unused byte of a section", numbers(5..16)),
-        ("field: unused byte of an obligation", numbers((4..6).chain(8..16))),
-        ("field: unused byte of an entry", numbers(4..8)),
-        (
-            "9: line 1 is a",
-            words(&["rule", "section", "conjunction", "match", "condition", "comparison", "obligation"]),
-        ),
-        ("9: span of line 1", words(&["below the count", "above the count"])),
-        ("10: past the parent's end", words(&["set", "policy", "rule", "section", "conjunction", "condition"])),
-        (
-            "11: after a later one",
-            pairs(&["section"], &["set", "policy", "rule", "condition", "comparison", "obligation"]),
-        ),
-        ("11: after a later one", pairs(&["set", "policy", "rule"], &["obligation"])),
-        ("11: second", words(&["condition of a rule", "part of not"])),
-        ("11: category of a section after one", words(&["same", "lower"])),
-        ("11: category of a match", words(&["not its section's"])),
-        ("12: too deep", words(&all)),
-        (
-            "11: not under its parent",
-            pairs(&["set", "policy"], &["policy", "rule", "section", "conjunction", "condition"]),
-        ),
-        ("11: not under its parent", pairs(&["rule"], &["set", "rule", "section", "conjunction", "condition"])),
-        ("11: not under its parent", pairs(&["section"], &["section", "conjunction", "condition"])),
-        ("11: not under its parent", pairs(&["conjunction"], &["set", "policy", "rule", "conjunction", "condition"])),
-        ("11: not under its parent", pairs(&["match"], &["set", "policy", "rule", "section", "condition"])),
-        ("11: not under its parent", pairs(&["condition", "comparison"], &["set", "policy", "section", "conjunction"])),
-        ("11: not under its parent", pairs(&["obligation"], &["rule", "section", "conjunction", "condition"])),
-    ];
-    for name in ["set", "policy", "rule", "conjunction", "condition"] {
-        wanted.push((unused_group(name), numbers(4..16)));
-    }
-    wanted.extend(wanted_together());
-    wanted
-}
-
-/// The faults that can stand at one line, of those that refuse a book by a place rule: a match has span 1, so it ends
-/// where its parent does or before; what stands after another child is as deep as that child, which is refused first.
-fn wanted_together() -> Wanted {
-    let past = ["10: past the parent's end"];
-    let after_another = ["11: after a later one", "11: second", "11: category of a section after one"];
-    let deep = ["12: too deep"];
-    vec![
-        (TWO_RULES, pairs(&["9: line 1 is a"], &["9: span of line 1"])),
-        (TWO_RULES, pairs(&past, &after_another)),
-        (TWO_RULES, pairs(&past, &["11: not under its parent", "12: too deep"])),
-        (TWO_RULES, pairs(&["11: not under its parent", "11: category of a match"], &deep)),
-        (THREE_RULES, triples(&past, &["11: not under its parent"], &deep)),
-        (PASSED_OVER, pairs(&["9"], &["at an earlier line", "at the same line"])),
-        (PASSED_OVER, pairs(&["10", "11", "12"], &["at an earlier line", "at the same line", "at a later line"])),
-    ]
 }

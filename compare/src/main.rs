@@ -1,8 +1,10 @@
-//! An independent evaluator of Bachumoi's books, written from document 01, and its comparisons with
+//! An independent evaluator of Bachumoi's books, written from documents 01 and 02, and its comparisons with
 //! the proved libraries.
 
 mod bench;
 mod books;
+mod borders;
+mod causes;
 mod compare_damaged;
 mod compare_decide;
 mod compare_judge;
@@ -10,12 +12,16 @@ mod compare_text;
 mod compare_ticks;
 mod damage;
 mod decide;
+mod expression;
 mod judge;
 mod lent;
 mod linked;
 mod obligations;
 mod once;
+mod operands;
 mod paper;
+#[cfg(test)]
+mod planted;
 mod policy;
 mod random;
 mod record;
@@ -24,11 +30,15 @@ mod requests;
 mod rig;
 mod run;
 mod subject;
+mod sums;
+#[cfg(test)]
+mod sums_tests;
 mod tally;
 #[cfg(test)]
 mod tests;
 mod text;
 mod truth;
+mod units;
 
 use bench::Machine;
 use run::{compare, Cases, Difference};

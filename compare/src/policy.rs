@@ -1,6 +1,7 @@
 //! An accepted book as a tree, and an accepted request as keys with values.
 
 use crate::record::*;
+use crate::sums::Operator;
 
 /// Also the number of a rule's or an obligation's effect: 1 Permit, 2 Deny.
 #[derive(Clone, Copy, PartialEq, Eq, Debug)]
@@ -31,6 +32,32 @@ pub enum Value {
     Double(f64),
 }
 
+impl Value {
+    pub fn of(value_type: u8, bytes: [u8; 8]) -> Value {
+        match value_type {
+            INTEGER => Value::Integer(i64::from_be_bytes(bytes)),
+            NAME => Value::Name(bytes),
+            _ => Value::Double(f64::from_be_bytes(bytes)),
+        }
+    }
+
+    pub fn value_type(self) -> u8 {
+        match self {
+            Value::Integer(_) => INTEGER,
+            Value::Name(_) => NAME,
+            Value::Double(_) => DOUBLE,
+        }
+    }
+
+    pub fn bytes(self) -> [u8; 8] {
+        match self {
+            Value::Integer(integer) => integer.to_be_bytes(),
+            Value::Name(name) => name,
+            Value::Double(double) => double.to_be_bytes(),
+        }
+    }
+}
+
 #[derive(Clone, Copy, PartialEq, Eq, Debug)]
 pub struct Key {
     pub category: u8,
@@ -55,6 +82,20 @@ pub struct Test {
     pub literal: Value,
 }
 
+/// A value of a condition.
+pub enum Expression {
+    Literal(Value),
+    /// The one value of a bag; that it must be present, or may be absent, has no effect.
+    Attribute {
+        key: Key,
+        must_be_present: bool,
+    },
+    Operation {
+        operator: Operator,
+        operands: Box<[Expression; 2]>,
+    },
+}
+
 pub struct Conjunction(pub Vec<Test>);
 pub struct Section(pub Vec<Conjunction>);
 pub struct Target(pub Vec<Section>);
@@ -64,6 +105,8 @@ pub enum Condition {
     Or(Vec<Condition>),
     Not(Box<Condition>),
     Comparison(Test),
+    /// Two values by a function, the first first.
+    Values(Function, [Expression; 2]),
 }
 
 pub struct Rule {
@@ -134,7 +177,7 @@ pub fn tree(bytes: &[u8]) -> Policy {
 pub fn attributes(bytes: &[u8]) -> Vec<Attribute> {
     let attribute = |entry: &Entry| {
         let key = Key { category: entry.category(), value_type: entry.value_type(), identifier: entry.identifier() };
-        Attribute { key, value: value(entry.value_type(), entry.value()) }
+        Attribute { key, value: Value::of(entry.value_type(), entry.value()) }
     };
     entries(bytes).iter().map(attribute).collect()
 }
@@ -203,36 +246,59 @@ fn conjunction(subtree: &[Record]) -> Conjunction {
 }
 
 fn condition(subtree: &[Record]) -> Condition {
+    let (record, choice) = (&subtree[0], subtree[0].choice());
+    if record.is_comparison_of_values() {
+        return Condition::Values(function(choice - COMPARISON_OF_VALUES), operands(subtree));
+    }
     let mut parts = children_of(subtree, &[CONDITION], condition);
-    match subtree[0].choice() {
+    match choice {
         AND => Condition::And(parts),
         OR => Condition::Or(parts),
         NOT => Condition::Not(Box::new(parts.remove(0))),
-        choice => Condition::Comparison(test(&subtree[0], choice - COMPARISON)),
+        _ => Condition::Comparison(test(record, choice - COMPARISON)),
     }
 }
 
-fn test(record: &Record, function: u8) -> Test {
-    let function = match function {
+/// The two values below an operator or a comparison of values.
+fn operands(subtree: &[Record]) -> [Expression; 2] {
+    let operands = children_of(subtree, &[VALUE], expression);
+    operands.try_into().ok().expect("an accepted book has two operands here")
+}
+
+fn expression(subtree: &[Record]) -> Expression {
+    let record = &subtree[0];
+    match record.choice() {
+        LITERAL => Expression::Literal(Value::of(record.type_byte(), record.value())),
+        ATTRIBUTE => Expression::Attribute { key: key(record), must_be_present: must_be_present(record) },
+        choice => Expression::Operation { operator: Operator::of(choice), operands: Box::new(operands(subtree)) },
+    }
+}
+
+fn test(record: &Record, choice: u8) -> Test {
+    let key = key(record);
+    Test {
+        function: function(choice),
+        key,
+        must_be_present: must_be_present(record),
+        literal: Value::of(key.value_type, record.value()),
+    }
+}
+
+fn function(choice: u8) -> Function {
+    match choice {
         1 => Function::Equal,
         2 => Function::Greater,
         3 => Function::GreaterOrEqual,
         4 => Function::Less,
         _ => Function::LessOrEqual,
-    };
-    let value_type = record.type_byte() % MUST_BE_PRESENT;
-    Test {
-        function,
-        key: Key { category: record.category(), value_type, identifier: record.identifier() },
-        must_be_present: record.type_byte() >= MUST_BE_PRESENT,
-        literal: value(value_type, record.value()),
     }
 }
 
-fn value(value_type: u8, bytes: [u8; 8]) -> Value {
-    match value_type {
-        INTEGER => Value::Integer(i64::from_be_bytes(bytes)),
-        NAME => Value::Name(bytes),
-        _ => Value::Double(f64::from_be_bytes(bytes)),
-    }
+fn key(record: &Record) -> Key {
+    let value_type = record.type_byte() % MUST_BE_PRESENT;
+    Key { category: record.category(), value_type, identifier: record.identifier() }
+}
+
+fn must_be_present(record: &Record) -> bool {
+    record.type_byte() >= MUST_BE_PRESENT
 }

@@ -13,12 +13,21 @@ pub const CONJUNCTION: u8 = 5;
 pub const MATCH: u8 = 6;
 pub const CONDITION: u8 = 7;
 pub const OBLIGATION: u8 = 8;
+pub const VALUE: u8 = 10;
 
 pub const AND: u8 = 1;
 pub const OR: u8 = 2;
 pub const NOT: u8 = 3;
 /// A comparison's choice is this and its function.
 pub const COMPARISON: u8 = 10;
+/// The choice of a comparison of two values is this and its function.
+pub const COMPARISON_OF_VALUES: u8 = 20;
+
+pub const LITERAL: u8 = 1;
+pub const ATTRIBUTE: u8 = 2;
+/// The operators of a value: 3 add, 4 subtract, 5 multiply, 6 divide, 7 remainder, 8 double add.
+pub const ADD: u8 = 3;
+pub const DOUBLE_ADD: u8 = 8;
 
 pub const INTEGER: u8 = 1;
 pub const NAME: u8 = 2;
@@ -63,13 +72,49 @@ impl Record {
         self.0[8..].try_into().unwrap()
     }
 
-    /// A match, a comparison or an obligation: it has no children.
+    /// A match, a comparison, an obligation, a literal or an attribute: it has no children.
     pub fn is_leaf(&self) -> bool {
-        self.kind() == MATCH || self.kind() == OBLIGATION || self.is_comparison()
+        self.kind() == MATCH
+            || self.kind() == OBLIGATION
+            || self.is_comparison()
+            || self.is_literal()
+            || self.is_attribute()
     }
 
     pub fn is_comparison(&self) -> bool {
-        self.kind() == CONDITION && self.choice() > COMPARISON
+        self.kind() == CONDITION && (COMPARISON + 1..=COMPARISON + 5).contains(&self.choice())
+    }
+
+    pub fn is_comparison_of_values(&self) -> bool {
+        let choices = COMPARISON_OF_VALUES + 1..=COMPARISON_OF_VALUES + 5;
+        self.kind() == CONDITION && choices.contains(&self.choice())
+    }
+
+    pub fn is_literal(&self) -> bool {
+        self.kind() == VALUE && self.choice() == LITERAL
+    }
+
+    pub fn is_attribute(&self) -> bool {
+        self.kind() == VALUE && self.choice() == ATTRIBUTE
+    }
+
+    pub fn is_operator(&self) -> bool {
+        self.kind() == VALUE && (ADD..=DOUBLE_ADD).contains(&self.choice())
+    }
+
+    /// An operator or a comparison of two values: its children are its operands.
+    pub fn takes_operands(&self) -> bool {
+        self.is_operator() || self.is_comparison_of_values()
+    }
+
+    /// The type of a value; that of an operator comes from its choice alone.
+    pub fn operand_type(&self) -> Option<u8> {
+        match (self.kind(), self.choice()) {
+            (VALUE, LITERAL | ATTRIBUTE) => Some(self.type_byte() % MUST_BE_PRESENT),
+            (VALUE, DOUBLE_ADD) => Some(DOUBLE),
+            (VALUE, _) => Some(INTEGER),
+            _ => None,
+        }
     }
 
     /// What the kind is called in the tables of counts.
@@ -82,8 +127,13 @@ impl Record {
             CONJUNCTION => "conjunction",
             MATCH => "match",
             CONDITION if self.is_comparison() => "comparison",
+            CONDITION if self.is_comparison_of_values() => "comparison of values",
             CONDITION => "condition",
             OBLIGATION => "obligation",
+            VALUE if self.is_literal() => "literal",
+            VALUE if self.is_attribute() => "attribute",
+            VALUE if self.is_operator() => "operator",
+            VALUE => "value",
             _ => "no kind",
         }
     }

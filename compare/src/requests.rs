@@ -1,33 +1,43 @@
 //! Generates requests that are aimed at what a book asks for.
 
-use crate::books::{finite, value};
+use crate::books::{finite, value, Book};
 use crate::judge::is_test;
 use crate::random::Random;
 use crate::record::*;
 
+/// What a book asks for, with a value that tells: the literal of a test, or what an operand is meant to be.
+#[derive(Clone, Copy)]
+struct Aim {
+    entry: Entry,
+    of_operand: bool,
+}
+
 /// A sound request for this sound book.
-pub fn request(random: &mut Random, book: &[Record]) -> Vec<Entry> {
-    let tests: Vec<&Record> = book.iter().filter(|record| is_test(record)).collect();
-    let mut keys: Vec<&Record> = Vec::new();
-    for test in tests.iter().take(200) {
-        if !keys.iter().any(|key| same_key(key, test)) {
-            keys.push(test);
+pub fn request(random: &mut Random, book: &Book) -> Vec<Entry> {
+    let operands = book.wishes.iter().map(|&entry| Aim { entry, of_operand: true });
+    let tests = book.records.iter().filter(|record| is_test(record)).map(aim_of);
+    let aims: Vec<Aim> = operands.chain(tests).collect();
+    let mut keys: Vec<Entry> = Vec::new();
+    for aim in aims.iter().take(200) {
+        if !keys.iter().any(|key| same_key(key, &aim.entry)) {
+            keys.push(aim.entry);
         }
     }
     let mut entries = Vec::new();
     let mood = random.below(12);
     for key in keys {
-        let literals: Vec<&Record> = tests.iter().filter(|test| same_key(key, test)).copied().collect();
+        let aims: Vec<Aim> = aims.iter().filter(|aim| same_key(&key, &aim.entry)).copied().collect();
         let values = match mood {
             0 => 0,
             1..=4 => 1,
+            5..=7 if aims[0].of_operand => 1,
             5..=8 => random.pick(&[0, 1, 1, 1, 2, 3]),
             9..=10 => random.below(2),
             _ => random.between(0, 4),
         };
         for _ in 0..values {
-            let literal = literals[random.below(literals.len())];
-            entries.push(near(random, literal));
+            let aim = random.pick(&aims);
+            entries.push(near(random, aim));
         }
     }
     if random.chance(15) {
@@ -41,6 +51,12 @@ pub fn request(random: &mut Random, book: &[Record]) -> Vec<Entry> {
     entries
 }
 
+fn aim_of(test: &Record) -> Aim {
+    let value_type = test.type_byte() % MUST_BE_PRESENT;
+    let entry = Entry::new(test.category(), value_type, test.identifier(), test.value());
+    Aim { entry, of_operand: false }
+}
+
 /// An entry that no book asks for on purpose.
 pub fn stray(random: &mut Random) -> Entry {
     let value_type = random.pick(&[INTEGER, NAME, DOUBLE]);
@@ -48,25 +64,25 @@ pub fn stray(random: &mut Random) -> Entry {
     Entry::new(random.between(1, 4) as u8, value_type, identifier, value(random, value_type))
 }
 
-fn same_key(left: &Record, right: &Record) -> bool {
-    left.category() == right.category()
-        && left.identifier() == right.identifier()
-        && left.type_byte() % MUST_BE_PRESENT == right.type_byte() % MUST_BE_PRESENT
+fn same_key(left: &Entry, right: &Entry) -> bool {
+    left.0[..4] == right.0[..4]
 }
 
-/// An entry for the attribute of this test: its literal, one just beside it, or another value. Now and
-/// then it differs in category, identifier or type.
-fn near(random: &mut Random, test: &Record) -> Entry {
-    let value_type = test.type_byte() % MUST_BE_PRESENT;
-    let bits = u64::from_be_bytes(test.value());
+/// An entry for what is aimed at: its value, one just beside it, or another. Now and then it differs in category,
+/// identifier or type.
+fn near(random: &mut Random, aim: Aim) -> Entry {
+    let mut entry = aim.entry;
+    let value_type = entry.value_type();
+    let bits = u64::from_be_bytes(entry.value());
     let value = match random.below(10) {
-        0..=3 => test.value(),
+        _ if aim.of_operand && random.chance(75) => entry.value(),
+        0..=3 => entry.value(),
         4..=5 => beside(value_type, bits, 1),
         6 => beside(value_type, bits, u64::MAX),
         7..=8 => (bits ^ (1 << 63)).to_be_bytes(), // the other zero of a zero
         _ => value(random, value_type),
     };
-    let mut entry = Entry::new(test.category(), value_type, test.identifier(), value);
+    entry.0[8..].copy_from_slice(&value);
     match random.below(60) {
         0 => entry.0[0] = entry.0[0] % 4 + 1,
         1 => entry.0[3] ^= 1,

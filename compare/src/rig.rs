@@ -1,8 +1,9 @@
 //! The library `rig`. How the answer of a tick is packed, and which fields the state has, is said here
 //! and nowhere else.
 
+use crate::random::Random;
 use crate::refusal::{Part, Refusal};
-use crate::subject::{Field, Rig, Tick, TickAnswer};
+use crate::subject::{Field, Rig, Tick, TickAnswer, PIECES};
 
 /// The fields of the first number, with the largest value that the published layout allows each by itself.
 #[cfg_attr(not(has_rig), allow(dead_code))]
@@ -24,6 +25,36 @@ pub const FIELDS: [Field; 12] = [
 /// A state is 33 numbers; behind them, one number each, stand the obligation places.
 #[cfg_attr(not(has_rig), allow(dead_code))]
 const NUMBERS: usize = 33;
+
+/// Bits 0-3 of an entry that is a piece of a sum; larger numbers are of no entry.
+#[cfg_attr(not(has_rig), allow(dead_code))]
+const SUM: u64 = 12;
+
+/// Which piece an entry is, as `PIECES` has them: bits 4-5 say literal, attribute, operator or comparison, and of an
+/// operator the bits from 6 on say which.
+#[cfg_attr(not(has_rig), allow(dead_code))]
+fn piece(programme: &[u64], at: usize) -> Option<&'static str> {
+    let entry = programme.get(at).filter(|entry| *entry % 16 == SUM)?;
+    let operator = (entry >> 6).min(5) as usize;
+    Some(match entry >> 4 & 3 {
+        0 => PIECES[0],
+        1 => PIECES[1],
+        2 => PIECES[2 + operator],
+        _ => PIECES[8],
+    })
+}
+
+/// Puts an entry of a number that none has at a place, or ends the programme with a literal whose eight bytes are missing.
+#[cfg_attr(not(has_rig), allow(dead_code))]
+fn outside(random: &mut Random, of_sum: bool, programme: &mut Vec<u64>, at: usize) {
+    let rest = if random.chance(50) { random.next() } else { random.below(4) as u64 };
+    if of_sum {
+        programme[at] = rest << 6 | SUM;
+        programme.truncate(at + 1);
+    } else {
+        programme[at] = rest << 4 | random.pick(&[SUM + 1, SUM + 2, SUM + 3]);
+    }
+}
 
 /// Unpacks the answer of a tick: a refusal as the C host packs it; else the steps in the high 32 bits
 /// and below them 0 while running, or decision + 256 x count.
@@ -49,7 +80,8 @@ pub fn unpack(packed: u64) -> Tick {
 
 #[cfg(has_rig)]
 mod calls {
-    use super::{unpack, FIELDS, NUMBERS};
+    use super::{outside, piece, unpack, FIELDS, NUMBERS};
+    use crate::random::Random;
     use crate::subject::{Field, Rig, Tick};
 
     extern "C" {
@@ -117,6 +149,19 @@ mod calls {
 
         fn fields(&self) -> &'static [Field] {
             &FIELDS
+        }
+
+        fn place(&self, state: &[u64]) -> usize {
+            let field = FIELDS[0]; // at
+            (state[field.number] >> field.low) as usize & ((1 << field.width) - 1)
+        }
+
+        fn piece(&self, programme: &[u64], at: usize) -> Option<&'static str> {
+            piece(programme, at)
+        }
+
+        fn outside(&self, random: &mut Random, of_sum: bool, programme: &mut Vec<u64>, at: usize) {
+            outside(random, of_sum, programme, at);
         }
 
         fn cut(&self, state: &mut [u64]) {

@@ -1,6 +1,7 @@
 //! What is compared: the calls of the proved libraries, each as a trait, so that a test can put
 //! something else in their place.
 
+use crate::random::Random;
 use crate::refusal::{Part, Refusal};
 
 /// Reading and writing: 256 x bytes filled, or the refusal.
@@ -44,6 +45,19 @@ pub struct Field {
     pub most: u64,
 }
 
+/// What a step may carry out of a sum.
+pub const PIECES: [&str; 9] = [
+    "literal",
+    "attribute",
+    "add",
+    "subtract",
+    "multiply",
+    "divide",
+    "remainder",
+    "double add",
+    "comparison of values",
+];
+
 /// Translating and running over ticks.
 pub trait Rig: Sync {
     /// 256 x entries filled, or the refusal.
@@ -53,6 +67,12 @@ pub trait Rig: Sync {
     fn tick(&self, programme: &[u64], request: &[u8], state: &mut [u64], budget: u64, out: &mut [u16]) -> Tick;
     /// The fields of the published layout.
     fn fields(&self) -> &'static [Field];
+    /// The place of the entry at which the next step from this state stands.
+    fn place(&self, state: &[u64]) -> usize;
+    /// Which of the pieces the entry at a place is; none where it is no piece of a sum.
+    fn piece(&self, programme: &[u64], at: usize) -> Option<&'static str>;
+    /// Puts an entry that the layout does not allow at a place: of no kind, or a damaged piece of a sum.
+    fn outside(&self, random: &mut Random, of_sum: bool, programme: &mut Vec<u64>, at: usize);
     /// Cuts the numbers of a state to the bits that a call can see.
     fn cut(&self, _state: &mut [u64]) {}
 }

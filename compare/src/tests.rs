@@ -10,14 +10,18 @@ use crate::compare_text;
 use crate::compare_ticks;
 use crate::decide;
 use crate::judge;
+use crate::obligations::Answer;
+use crate::operands;
 use crate::paper;
+use crate::planted;
 use crate::policy::Decision;
 use crate::random::Random;
 use crate::record::*;
 use crate::refusal::{refuse, too_short, Part, Refusal};
 use crate::rig::unpack;
-use crate::run::{compare, Cases};
+use crate::run::{compare, Cases, Difference};
 use crate::subject::{Field, Host, Judge, Rig, Texts, Tick, TickAnswer};
+use crate::sums::{self, Apply, Operator};
 use crate::tally::{Item, Tally, Wanted};
 use crate::text;
 
@@ -112,7 +116,7 @@ fn generated_books_are_sound() {
     for case in 0..3000 {
         let mut random = Random::of_case(7, case);
         let book = books::book(&mut random);
-        judge::book(&book_bytes(&book)).expect("a generated book is sound");
+        judge::book(&book_bytes(&book.records)).expect("a generated book is sound");
     }
 }
 
@@ -137,7 +141,7 @@ const FIRST_APPLICABLE: u8 = 3;
 const ONLY_ONE: u8 = 4;
 
 /// A record with these children.
-fn with(kind: u8, choice: u8, children: &[Vec<Record>]) -> Vec<Record> {
+pub fn with(kind: u8, choice: u8, children: &[Vec<Record>]) -> Vec<Record> {
     let mut records = vec![books::record(kind, choice)];
     records.extend(children.concat());
     let span = records.len();
@@ -282,12 +286,26 @@ enum Plan {
     OrderOfObligations,
     ZerosApart,
     NamesAsDoubles,
+    TypeOfTheSecond,
+    OperandsByWalking,
+    SubtractExchanged,
+    DivideExchanged,
+    ValuesExchanged,
+    RemainderOfTheDivisor,
+    InfinityKept,
+    FirstHidden,
+    SecondHidden,
+    WrapAround,
+    DivideDown,
+    TieAway,
+    OperandLostBetweenTicks,
     OutputTouchedWhileRunning,
     StateLostOnRefusal,
     ExtraStep,
     EndNotKept,
     AnswerTooEarly,
     BudgetNotUsed,
+    OutsideNotRefused,
 }
 
 struct Model(Plan);
@@ -335,7 +353,7 @@ impl Host for Model {
     fn decide(&self, book: &[u8], request: &[u8], out: &mut [u8]) -> u64 {
         let last = out.last().copied();
         let (book, request) = self.misread(book, request);
-        let answer = decide::host_call(&book, &request, out, &mut Tally::default());
+        let answer = decide::host_call_by(self.apply(), &book, &request, out, &mut Tally::default());
         match self.0 {
             Plan::OddByteKept if answer % 256 != 255 && out.len() % 2 == 1 => out[out.len() - 1] = last.unwrap(),
             Plan::OrderOfObligations if answer % 256 != 255 && answer > 511 => out[..4].rotate_left(2),
@@ -345,9 +363,9 @@ impl Host for Model {
     }
 }
 
-/// A stand-in for the rig. Its programme is the number of records, two entries a record and two
-/// more; a step puts one obligation into its place, and the last step finishes. A damaged programme
-/// meets 8 after 0, 1 or 2 steps.
+/// A stand-in for the rig. Its programme is the number of records and two entries a record; a step looks at one
+/// record or puts one obligation into its place, and the last step finishes. A damaged programme meets 8 after 0, 1
+/// or 2 steps.
 impl Rig for Model {
     fn translate(&self, book: &[u8], programme: &mut [u64]) -> u64 {
         match judge::book(book) {
@@ -381,9 +399,9 @@ impl Rig for Model {
         }
         let first = First::of(state[0]);
         let allowed =
-            first.number() == state[0] && first.place <= 1000 && state[1..].iter().all(|&place| place < 65_536);
-        let decision = first.decision;
-        if programme.is_empty() || programme.len() > 8008 || !allowed || decision > 4 || first.count > first.place {
+            first.number() == state[0] && first.taken <= 2000 && state[1..].iter().all(|&place| place < 65_536);
+        let allowed = allowed && first.decision <= 4 && first.count <= first.taken.min(1000);
+        if programme.is_empty() || programme.len() > 8008 || !allowed {
             if self.0 == Plan::StateLostOnRefusal {
                 state[0] = 0;
             }
@@ -394,28 +412,69 @@ impl Rig for Model {
 
     fn fields(&self) -> &'static [Field] {
         &[
-            Field { number: 0, low: 0, width: 16, most: 1000 },
+            Field { number: 0, low: 0, width: 16, most: 2000 },
             Field { number: 0, low: 16, width: 16, most: 4 },
             Field { number: 0, low: 32, width: 16, most: 1000 },
         ]
     }
+
+    fn place(&self, state: &[u64]) -> usize {
+        1 + 2 * First::of(state[0]).taken as usize
+    }
+
+    fn outside(&self, random: &mut Random, of_sum: bool, programme: &mut Vec<u64>, at: usize) {
+        let kind = if of_sum { VALUE } else { 255 };
+        programme[at] = u64::from_be_bytes([kind, 255, 0, 1, 0, 0, 0, random.byte()]);
+    }
+
+    fn piece(&self, programme: &[u64], at: usize) -> Option<&'static str> {
+        let bytes: Vec<u8> = programme.get(at..at + 2)?.iter().flat_map(|entry| entry.to_be_bytes()).collect();
+        let record = *records(&bytes).first().filter(|_| at % 2 == 1)?;
+        match record.kind() {
+            _ if record.is_operator() => Some(Operator::of(record.choice()).name()),
+            VALUE => Some(record.name()),
+            _ => Some(record.name()).filter(|_| record.is_comparison_of_values()),
+        }
+    }
 }
 
-/// The first number of the stand-in's state: the obligations put down, the decision once finished,
-/// and the number of obligations.
+/// The records in a stand-in's programme.
+fn book_of(programme: &[u64]) -> Vec<u8> {
+    programme[1..].iter().flat_map(|entry| entry.to_be_bytes()).collect()
+}
+
+/// The first number of the stand-in's state: the steps taken, the decision once finished, and the number of
+/// obligations.
 struct First {
-    place: u64,
+    taken: u64,
     decision: u64,
     count: u64,
 }
 
 impl First {
     fn of(number: u64) -> First {
-        First { place: number & 0xFFFF, decision: number >> 16 & 0xFFFF, count: number >> 32 & 0xFFFF }
+        First { taken: number & 0xFFFF, decision: number >> 16 & 0xFFFF, count: number >> 32 & 0xFFFF }
     }
 
     fn number(&self) -> u64 {
-        self.place | self.decision << 16 | self.count << 32
+        self.taken | self.decision << 16 | self.count << 32
+    }
+}
+
+/// Looks at a record, or puts an obligation into its place, or finishes.
+fn step(state: &mut [u64], records: usize, answer: &Answer) {
+    let first = First::of(state[0]);
+    let placed = (first.taken as usize).checked_sub(records);
+    match placed.map(|placed| (placed, answer.obligations.get(placed))) {
+        None => state[0] += 1,
+        Some((placed, Some(&number))) => {
+            state[1 + placed] = number.into();
+            state[0] += 1;
+        }
+        Some((_, None)) => {
+            let count = answer.obligations.len() as u64;
+            state[0] = First { decision: answer.decision as u64, count, taken: first.taken }.number();
+        }
     }
 }
 
@@ -431,6 +490,9 @@ impl Model {
             Plan::DepthNotJudged if deep => 0,
             Plan::DepthBeforePlace if deep && number == 11 => planted(12),
             Plan::NineBelowLine1 if number == 10 => planted(9),
+            Plan::TypeOfTheSecond if of_the_first(&refused.causes) => 0,
+            Plan::OperandsByWalking if refused.found == Some(operands::BY_WALKING_ALONE) => planted(10),
+            Plan::OperandsByWalking if refused.found == Some(operands::BY_PARENTS_ALONE) => planted(11),
             _ => refused.refusal.packed(),
         }
     }
@@ -451,45 +513,76 @@ impl Model {
                 misread(&mut book, 5, NAME, 0);
                 misread(&mut request, 1, NAME, 0);
             }
+            Plan::ValuesExchanged => book.chunks_exact_mut(LENGTH).for_each(exchange_values),
             _ => {}
         }
         (book, request)
     }
 
+    /// How a stand-in carries out operators.
+    fn apply(&self) -> Apply {
+        match self.0 {
+            Plan::SubtractExchanged => planted::subtract_exchanged,
+            Plan::DivideExchanged => planted::divide_exchanged,
+            Plan::RemainderOfTheDivisor => planted::remainder_of_the_divisor,
+            Plan::InfinityKept => planted::infinity_kept,
+            Plan::FirstHidden => planted::first_hidden,
+            Plan::SecondHidden => planted::second_hidden,
+            Plan::WrapAround => planted::wrap_around,
+            Plan::DivideDown => planted::divide_down,
+            Plan::TieAway => planted::tie_away,
+            _ => sums::apply,
+        }
+    }
+
+    /// What a tick from this state works towards; nothing where the programme is no book's.
+    fn aim(&self, programme: &[u64], request: &[u8], state: &[u64]) -> Option<Answer> {
+        let book = book_of(programme);
+        let records = judge::book(&book).ok()?.records as u64;
+        if records != programme[0] {
+            return None;
+        }
+        let inside = self.piece(programme, self.place(state)).is_some();
+        let lost = self.0 == Plan::OperandLostBetweenTicks && inside;
+        let apply = if lost { planted::always_lost } else { self.apply() };
+        let (book, request) = self.misread(&book, request);
+        Some(decide::decide_by(apply, &book, &request, &mut Tally::default()).0)
+    }
+
     fn run(&self, programme: &[u64], request: &[u8], state: &mut [u64], budget: u64, out: &mut [u16]) -> Tick {
         let before = state.to_vec();
-        let book: Vec<u8> = programme[1..].iter().flat_map(|entry| entry.to_be_bytes()).collect();
-        let (book, request) = self.misread(&book, request);
+        let aim = self.aim(programme, request, state);
         let mut steps = 0;
         if self.0 == Plan::OutputTouchedWhileRunning && budget == 1 {
             out[999] = 77;
         }
         while steps < budget && First::of(state[0]).decision == 0 {
-            let first = First::of(state[0]);
             steps += 1;
-            if judge::book(&book).is_err() || book.len() as u64 / 16 != programme[0] {
-                if first.place < programme.len() as u64 % 3 {
-                    state[0] += 1;
-                    continue;
-                }
-                state.copy_from_slice(&before);
-                return Tick { answer: TickAnswer::Refused(refuse(8, Part::Programme)), steps: 0 };
-            }
-            let (answer, _) = decide::decide(&book, &request, &mut Tally::default());
-            match answer.obligations.get(first.place as usize) {
-                Some(&number) => {
-                    state[1 + first.place as usize] = number.into();
-                    state[0] += 1;
-                }
+            match &aim {
+                Some(answer) => step(state, programme[0] as usize, answer),
+                None if self.may_go_on(programme, state) => state[0] += 1,
                 None => {
-                    let count = answer.obligations.len() as u64;
-                    state[0] = First { decision: answer.decision as u64, count, place: first.place }.number();
+                    state.copy_from_slice(&before);
+                    return Tick { answer: TickAnswer::Refused(refuse(8, Part::Programme)), steps: 0 };
                 }
             }
             if self.0 == Plan::BudgetNotUsed && steps == 2 {
                 break;
             }
         }
+        self.tell(state, steps, budget, out)
+    }
+
+    /// Whether a damaged programme does not meet 8 yet.
+    fn may_go_on(&self, programme: &[u64], state: &[u64]) -> bool {
+        let of_no_choice = |entry: &u64| entry.to_be_bytes()[1] == 255;
+        let meets = programme.get(self.place(state)).map_or(false, of_no_choice);
+        let meets = meets && self.0 != Plan::OutsideNotRefused;
+        !meets && First::of(state[0]).taken < programme.len() as u64 % 3
+    }
+
+    /// What a tick says after so many steps.
+    fn tell(&self, state: &[u64], steps: u64, budget: u64, out: &mut [u16]) -> Tick {
         let first = First::of(state[0]);
         let early = self.0 == Plan::AnswerTooEarly && steps == budget && budget > 1;
         if first.decision == 0 && !early {
@@ -506,45 +599,59 @@ impl Model {
     }
 }
 
+/// Whether a line is refused because of its first operand's type alone.
+fn of_the_first(causes: &[judge::Cause]) -> bool {
+    let of_first = |item: Item| matches!(item, Item::Triple(_, "first", _));
+    matches!(causes, [(operands::TYPES_DIFFER, _)])
+        || matches!(causes, [(operands::TYPE_OF_OPERAND, item)] if of_first(*item))
+}
+
+/// Makes of a comparison of two values the one that has them the other way round.
+fn exchange_values(line: &mut [u8]) {
+    if line[0] == CONDITION && (22..=25).contains(&line[1]) {
+        line[1] = [24, 25, 22, 23][usize::from(line[1]) - 22];
+    }
+}
+
 fn cases(count: u64) -> Cases {
     Cases { seed: 20, first: 0, count }
 }
 
-/// A planted error must show as a difference; nothing need be met then.
-fn wanted(plan: Plan, all: Wanted) -> Wanted {
-    if plan == Plan::Right {
-        all
-    } else {
-        Wanted::new()
+/// Whether all cases agree. With a planted error nothing need be met, and the first difference is enough.
+fn agree(
+    plan: Plan,
+    name: &str,
+    count: u64,
+    wanted: &Wanted,
+    each: impl Fn(&mut Random, &mut Tally) -> Result<(), Difference> + Sync,
+) -> bool {
+    let Cases { seed, .. } = cases(count);
+    match plan {
+        Plan::Right => compare(name, cases(count), wanted, each),
+        _ => (0..count).all(|case| each(&mut Random::of_case(seed, case), &mut Tally::default()).is_ok()),
     }
 }
 
 fn text_agrees(plan: Plan, count: u64) -> bool {
     let model = Model(plan);
-    compare("text", cases(count), &wanted(plan, compare_text::wanted()), |random, tally| {
-        compare_text::case(&model, random, tally)
-    })
+    agree(plan, "text", count, &compare_text::wanted(), |random, tally| compare_text::case(&model, random, tally))
 }
 
 fn judge_agrees(plan: Plan, count: u64) -> bool {
     let model = Model(plan);
-    compare("judge", cases(count), &wanted(plan, compare_judge::wanted()), |random, tally| {
-        compare_judge::case(&model, random, tally)
-    })
+    agree(plan, "judge", count, &compare_judge::wanted(), |random, tally| compare_judge::case(&model, random, tally))
 }
 
 fn decide_agrees(plan: Plan, count: u64) -> bool {
     let model = Model(plan);
-    compare("decide", cases(count), &wanted(plan, compare_decide::wanted()), |random, tally| {
-        compare_decide::case(&model, random, tally)
-    })
+    agree(plan, "decide", count, &compare_decide::wanted(), |random, tally| compare_decide::case(&model, random, tally))
 }
 
 fn ticks_agree(plan: Plan, count: u64) -> bool {
     let model = Model(plan);
     let machine = Machine::new(&model, Some(&model)).expect("a state has a length");
     compare_ticks::check_paper(&machine).is_ok()
-        && compare("ticks", cases(count), &wanted(plan, compare_ticks::wanted()), |random, tally| {
+        && agree(plan, "ticks", count, &compare_ticks::wanted(), |random, tally| {
             compare_ticks::case(&machine, random, tally)
         })
 }
@@ -552,7 +659,7 @@ fn ticks_agree(plan: Plan, count: u64) -> bool {
 fn damaged_agree(plan: Plan, count: u64) -> bool {
     let model = Model(plan);
     let machine = Machine::new(&model, None).expect("a state has a length");
-    compare("damaged", cases(count), &wanted(plan, compare_damaged::wanted()), |random, tally| {
+    agree(plan, "damaged", count, &compare_damaged::wanted(), |random, tally| {
         compare_damaged::case(&machine, random, tally)
     })
 }
@@ -570,31 +677,49 @@ fn judge_comparison() {
     assert!(judge_agrees(Plan::Right, 100_000));
     let planted =
         [Plan::NineBeforeFive, Plan::DepthNotJudged, Plan::DepthBeforePlace, Plan::NineBelowLine1, Plan::CountWrong];
-    for plan in planted {
+    for plan in planted.into_iter().chain([Plan::TypeOfTheSecond, Plan::OperandsByWalking]) {
         assert!(!judge_agrees(plan, 5_000), "{plan:?}");
     }
 }
 
+/// The errors that tempt in sums.
+const SUMS: [Plan; 10] = [
+    Plan::SubtractExchanged,
+    Plan::DivideExchanged,
+    Plan::ValuesExchanged,
+    Plan::RemainderOfTheDivisor,
+    Plan::InfinityKept,
+    Plan::FirstHidden,
+    Plan::SecondHidden,
+    Plan::WrapAround,
+    Plan::DivideDown,
+    Plan::TieAway,
+];
+
 #[test]
 fn decide_comparison() {
     assert!(decide_agrees(Plan::Right, 50_000));
-    for plan in [Plan::OddByteKept, Plan::OrderOfObligations, Plan::ZerosApart, Plan::NamesAsDoubles] {
-        assert!(!decide_agrees(plan, 3_000), "{plan:?}");
+    let planted = [Plan::OddByteKept, Plan::OrderOfObligations, Plan::ZerosApart, Plan::NamesAsDoubles];
+    for plan in planted.into_iter().chain(SUMS) {
+        assert!(!decide_agrees(plan, 10_000), "{plan:?}");
     }
 }
 
 #[test]
 fn ticks_comparison() {
-    assert!(ticks_agree(Plan::Right, 6_000));
+    assert!(ticks_agree(Plan::Right, 8_000));
     let planted =
         [Plan::OutputTouchedWhileRunning, Plan::ExtraStep, Plan::EndNotKept, Plan::AnswerTooEarly, Plan::BudgetNotUsed];
-    for plan in planted.into_iter().chain([Plan::ZerosApart, Plan::NamesAsDoubles]) {
-        assert!(!ticks_agree(plan, 2_000), "{plan:?}");
+    let of_values = [Plan::ZerosApart, Plan::NamesAsDoubles, Plan::OperandLostBetweenTicks];
+    for plan in planted.into_iter().chain(of_values).chain(SUMS) {
+        assert!(!ticks_agree(plan, 5_000), "{plan:?}");
     }
 }
 
 #[test]
 fn damaged_comparison() {
     assert!(damaged_agree(Plan::Right, 2_000));
-    assert!(!damaged_agree(Plan::StateLostOnRefusal, 2_000));
+    for plan in [Plan::StateLostOnRefusal, Plan::OutsideNotRefused] {
+        assert!(!damaged_agree(plan, 2_000), "{plan:?}");
+    }
 }

@@ -2,6 +2,7 @@
 //! part settles the answer. Each thing met on the way is counted.
 
 use crate::policy::*;
+use crate::sums::Apply;
 use crate::tally::{pairs, words, Item, Tally, Wanted};
 
 #[derive(Clone, Copy, PartialEq, Eq, Debug)]
@@ -14,8 +15,12 @@ pub enum Truth {
 pub struct Evaluator<'a> {
     pub attributes: &'a [Attribute],
     pub tally: &'a mut Tally,
+    /// How an operator is carried out.
+    pub apply: Apply,
     /// Above 0 while something is evaluated only to name a count.
     pub asides: usize,
+    /// The open conditions, and the operands that are known and wait for a second one.
+    pub waiting: usize,
     /// The records looked at.
     pub looked_at: u64,
 }
@@ -41,8 +46,16 @@ impl Evaluator<'_> {
         result
     }
 
+    /// Evaluates something for which one thing more has to wait.
+    pub fn meanwhile<T>(&mut self, evaluate: impl FnOnce(&mut Self) -> T) -> T {
+        self.waiting += 1;
+        let result = evaluate(self);
+        self.waiting -= 1;
+        result
+    }
+
     /// The request values of a key, in request order.
-    fn bag(&self, key: Key) -> Vec<Value> {
+    pub fn bag(&self, key: Key) -> Vec<Value> {
         let of_key = self.attributes.iter().filter(|attribute| attribute.key == key);
         of_key.map(|attribute| attribute.value).collect()
     }
@@ -100,14 +113,15 @@ impl Evaluator<'_> {
     pub fn condition(&mut self, condition: &Condition) -> Truth {
         self.look();
         match condition {
-            Condition::And(parts) => self.logic("and", Truth::False, parts, Self::condition),
-            Condition::Or(parts) => self.logic("or", Truth::True, parts, Self::condition),
+            Condition::And(parts) => self.meanwhile(|inner| inner.logic("and", Truth::False, parts, Self::condition)),
+            Condition::Or(parts) => self.meanwhile(|inner| inner.logic("or", Truth::True, parts, Self::condition)),
             Condition::Not(part) => {
-                let truth = not(self.condition(part));
+                let truth = not(self.meanwhile(|inner| inner.condition(part)));
                 self.met("not", truth_name(truth));
                 truth
             }
             Condition::Comparison(test) => self.comparison(test),
+            Condition::Values(function, operands) => self.comparison_of_values(*function, operands),
         }
     }
 
@@ -159,56 +173,60 @@ fn not(truth: Truth) -> Truth {
     }
 }
 
-/// The function, literal first.
-fn holds(function: Function, literal: Value, value: Value) -> bool {
+/// The function, of a literal or a first value and another.
+pub fn holds(function: Function, first: Value, second: Value) -> bool {
     match function {
-        Function::Equal => literal == value,
-        Function::Greater => greater(literal, value),
-        Function::GreaterOrEqual => greater(literal, value) || literal == value,
-        Function::Less => greater(value, literal),
-        Function::LessOrEqual => greater(value, literal) || literal == value,
+        Function::Equal => first == second,
+        Function::Greater => greater(first, second),
+        Function::GreaterOrEqual => greater(first, second) || first == second,
+        Function::Less => greater(second, first),
+        Function::LessOrEqual => greater(second, first) || first == second,
     }
 }
 
-fn greater(left: Value, right: Value) -> bool {
-    match (left, right) {
-        (Value::Integer(left), Value::Integer(right)) => left > right,
-        (Value::Double(left), Value::Double(right)) => left > right,
+fn greater(first: Value, second: Value) -> bool {
+    match (first, second) {
+        (Value::Integer(first), Value::Integer(second)) => first > second,
+        (Value::Double(first), Value::Double(second)) => first > second,
         _ => false,
     }
 }
 
 // Names for the tables of counts
 
-/// How a literal stands to a request value of its type.
-fn relation(literal: Value, value: Value) -> (&'static str, &'static str) {
-    let order = if literal == value {
+/// How a literal or a first value stands to another of its type.
+pub fn relation(first: Value, second: Value) -> (&'static str, &'static str) {
+    let order = if first == second {
         "same"
-    } else if greater(literal, value) {
-        "literal above"
+    } else if greater(first, second) {
+        "first above"
     } else {
-        "literal below"
+        "first below"
     };
-    match (literal, value) {
+    match (first, second) {
         (Value::Integer(_), _) => ("integer", order),
-        (Value::Name(literal), Value::Name(value)) => ("name", of_names(literal, value)),
-        (Value::Double(literal), Value::Double(value)) if literal == 0.0 && value == 0.0 => {
-            let minus = |zero: f64| usize::from(zero.is_sign_negative());
-            ("double", ZEROS[2 * minus(literal) + minus(value)])
+        (Value::Name(first), Value::Name(second)) => ("name", of_names(first, second)),
+        (Value::Double(first), Value::Double(second)) if first == 0.0 && second == 0.0 => {
+            ("double", of_zeros(first, second))
         }
         _ => ("double", order),
     }
 }
 
-/// Which zero a literal is, and which a request value.
-const ZEROS: [&str; 4] = ["0 and 0", "0 and -0", "-0 and 0", "-0 and -0"];
+/// Which zero comes first, and which second.
+pub const ZEROS: [&str; 4] = ["0 and 0", "0 and -0", "-0 and 0", "-0 and -0"];
+
+pub fn of_zeros(first: f64, second: f64) -> &'static str {
+    let minus = |zero: f64| usize::from(zero.is_sign_negative());
+    ZEROS[2 * minus(first) + minus(second)]
+}
 
 /// Names are told by their bytes, also where these are a zero of doubles, or no number.
-const NAMES: [&str; 4] = ["other", "other, equal as doubles", "same, no number as doubles", "same"];
+pub const NAMES: [&str; 4] = ["other", "other, equal as doubles", "same, no number as doubles", "same"];
 
-fn of_names(literal: [u8; 8], value: [u8; 8]) -> &'static str {
-    let as_doubles = f64::from_be_bytes(literal) == f64::from_be_bytes(value);
-    NAMES[2 * usize::from(literal == value) + usize::from(as_doubles)]
+fn of_names(first: [u8; 8], second: [u8; 8]) -> &'static str {
+    let as_doubles = f64::from_be_bytes(first) == f64::from_be_bytes(second);
+    NAMES[2 * usize::from(first == second) + usize::from(as_doubles)]
 }
 
 pub fn truth_name(truth: Truth) -> &'static str {
@@ -236,6 +254,16 @@ fn comparison_group(function: Function) -> &'static str {
         Function::GreaterOrEqual => "comparison: greater or equal",
         Function::Less => "comparison: less",
         Function::LessOrEqual => "comparison: less or equal",
+    }
+}
+
+pub fn values_group(function: Function) -> &'static str {
+    match function {
+        Function::Equal => "values: equal",
+        Function::Greater => "values: greater",
+        Function::GreaterOrEqual => "values: greater or equal",
+        Function::Less => "values: less",
+        Function::LessOrEqual => "values: less or equal",
     }
 }
 
@@ -279,7 +307,7 @@ pub fn wanted_truths() -> Wanted {
         ("target", pairs(&["Indeterminate"], &["after a No-match", "before a No-match", "no No-match"])),
     ];
     for (function, group) in groups() {
-        wanted.push((group, pairs(&["integer", "double"], &["same", "literal above", "literal below"])));
+        wanted.push((group, pairs(&["integer", "double"], &["same", "first above", "first below"])));
         if function == Function::Equal {
             wanted.push((group, pairs(&["name"], &NAMES)));
         }
@@ -293,11 +321,11 @@ pub fn wanted_zeros() -> Wanted {
     groups().map(|(_, group)| (group, pairs(&["double"], &ZEROS))).collect()
 }
 
+pub const FUNCTIONS: [Function; 5] =
+    [Function::Equal, Function::Greater, Function::GreaterOrEqual, Function::Less, Function::LessOrEqual];
+
 /// Every function in a match and in a comparison.
 fn groups() -> impl Iterator<Item = (Function, &'static str)> {
-    let functions =
-        [Function::Equal, Function::Greater, Function::GreaterOrEqual, Function::Less, Function::LessOrEqual];
-    functions
-        .into_iter()
-        .flat_map(|function| [match_group(function), comparison_group(function)].map(|group| (function, group)))
+    let both = |function| [match_group(function), comparison_group(function)].map(|group| (function, group));
+    FUNCTIONS.into_iter().flat_map(both)
 }

@@ -19,7 +19,7 @@ use Rattle.calls.specs.Loop.{programmeIn, Answers}
 
 -- `bachumoi_decide`, of any book and output, gives the same number and leaves the same bytes
 abbrev pub DecidedAlike : List ℕ → List ℕ → Type 0
-DecidedAlike q r = (b out : List ℕ) → (hostNumber (hostOutcome b q out) ≡ hostNumber (hostOutcome b r out)) × (hostOut b q out ≡ hostOut b r out)
+DecidedAlike q r = (b out : List ℕ) → Bytes b → (hostNumber (hostOutcome b q out) ≡ hostNumber (hostOutcome b r out)) × (hostOut b q out ≡ hostOut b r out)
 
 -- every row of calls of `bachumoi_tick` with the first request, of an accepted book's programme, answers with the decision and the obligations of the second
 abbrev pub TickedAlike : List ℕ → List ℕ → Type 0

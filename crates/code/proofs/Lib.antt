@@ -10,5 +10,6 @@ pub mod Packed
 pub mod Rules
 pub mod Size
 pub mod Small
+pub mod Sums
 pub mod Whole
 pub mod Words

@@ -17,7 +17,7 @@ use Rattle.meaning.specs.Meaning.{gives, matchIn, matchOf, comparisonOf, condit
 use Rattle.meaning.specs.Reading.{keyAt, testAt, matchAt, comparisonAt, rowOf, childrenAt, conjunctionAt, sectionAt, targetIn, conditionAt, conditionsIn, whenIn, ruleAt, rulesIn, obligationsIn, treeAt, treesIn, bookOf, bagFrom, bagsOf}
 use Rattle.meaning.specs.declared.Decision.{Decision}
 use Rattle.meaning.specs.declared.Decision.the-variants.{Permit, Deny, NotApplicable, Indeterminate}
-use Rattle.placement.specs.Place.{endOf, parentOf, elderOf, depthOf, holdsConditions, singleOf, rankAt, elderRank, standsOk, childRule, childBroken, topOk, brokenAt, placeOk}
+use Rattle.placement.specs.Place.{endOf, parentOf, elderOf, depthOf, holdsConditions, singleOf, rankAt, elderRank, standsOk, operandsAt, childRule, childBroken, topOk, brokenAt, placeOk}
 use Rattle.judge.specs.Judge.{judgeRecords, judgeOf}
 use Rattle.judge.specs.Request.{judgeEntries, judgeRequestOf}
 use Rattle.decider.specs.Outcome.{dutiesOf, outcomeOf, outOf}
@@ -86,7 +86,7 @@ table : run bookA [] ∷ run bookA (is60 ∷ []) ∷ run bookA (is40 ∷ []) ∷
     ≡ none Indeterminate ∷ one Permit 17 ∷ one Deny 18 ∷ one Permit 17 ∷ one Deny 18 ∷ none Indeterminate
     ∷ none Deny ∷ none Indeterminate ∷ none Indeterminate ∷ none Indeterminate ∷ none NotApplicable ∷ []
 unfolding run none one lines bytes bookA denySet permitSet onlySet twoSections oneConjunction is40 is50 is60 isMinus1
-    outcomeOf outOf dutiesOf judgeOf judgeRecords judgeRequestOf judgeEntries placeOk brokenAt topOk childBroken childRule standsOk elderRank rankAt singleOf holdsConditions depthOf elderOf parentOf endOf
+    outcomeOf outOf dutiesOf judgeOf judgeRecords judgeRequestOf judgeEntries placeOk brokenAt topOk childBroken childRule standsOk operandsAt elderRank rankAt singleOf holdsConditions depthOf elderOf parentOf endOf
     entryOk obligationsOf fieldOk obligationOk comparesOk sectionOk plainOk zeros finite typeAt typeOf kindAt kindOf firstFrom lastBelow countBelow allBelow
     decides obliges childOf childrenOf ruleChildren ruleChild nodeOf ownOf handed combine ruleOf whenOf targetOf sectionsOf sectionOf conjunctionOf conditionOf conditionsOf comparisonOf matchOf matchIn gives keyBy
     bookOf treesIn treeAt obligationsIn rulesIn ruleAt whenIn conditionsIn conditionAt targetIn sectionAt conjunctionAt childrenAt rowOf comparisonAt matchAt testAt keyAt bagsOf bagFrom

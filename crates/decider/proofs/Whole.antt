@@ -135,11 +135,11 @@ refused-line b q room {r} = go (judgeOf b) refl (judgeRequestOf q) refl
         at true e = same e (omega arith)
         at false e = let z : _≡_ {A = ℕ} 0 1 = cc in absurd (omega arith)
 
--- a request counts only through what tests find in its bags
+-- a request counts only through what tests and operands find in its bags
 pub outcome-by-tests : OutcomeByTests
 unfolding outcomeOf dutiesOf
-outcome-by-tests b q r room n m eq er same =
-    let e = counts-by-tests (bagsOf q) (bagsOf r) same (bookOf b) in
+outcome-by-tests b q r room n m eq er typed same =
+    let e = counts-by-tests (bagsOf q) (bagsOf r) same (bookOf b) typed in
     (rw (eq, er, e .0, e .1) (go (judgeOf b) (Decided (decides (bagsOf r) (bookOf b)) (length (obliges (bagsOf r) (bookOf b))))), e .1)
   where
     go : (j : Judged) (a : Outcome) → inOrder j (request.Accepted n) room a ≡ inOrder j (request.Accepted m) room a

@@ -9,6 +9,7 @@ use Rattle.record.specs.Choose.{if}
 use Rattle.record.specs.Refusals.{noRoom}
 use Rattle.meaning.specs.Meaning.{decides, obliges}
 use Rattle.meaning.specs.Reading.{bookOf, bagsOf}
+use Rattle.meaning.specs.Typed.{TypedTree}
 use Rattle.meaning.specs.Alike.{FoundAlike}
 use Rattle.judge.specs.Judge.{judgeOf}
 use Rattle.judge.specs.Request.{judgeRequestOf}
@@ -41,9 +42,9 @@ filled (Refused r) xs l = l
 unfoldable pub outOf : List ℕ → List ℕ → List ℕ → List ℕ
 outOf b q l = filled (outcomeOf b q (length l)) (dutiesOf b q) l
 
--- a request counts only through what tests find in its bags: two that are accepted, and in which every test finds the same, get the same outcome and the same
--- obligations
+-- a request counts only through what tests and operands find in its bags: two that are accepted, and in which all find the same, get the same outcome and the
+-- same obligations from a book whose conditions are typed
 abbrev pub OutcomeByTests : Type 0
 OutcomeByTests =
-    (b q r : List ℕ) (room n m : ℕ) → judgeRequestOf q ≡ request.Accepted n → judgeRequestOf r ≡ request.Accepted m → FoundAlike (bagsOf q) (bagsOf r)
-    → (outcomeOf b q room ≡ outcomeOf b r room) × (dutiesOf b q ≡ dutiesOf b r)
+    (b q r : List ℕ) (room n m : ℕ) → judgeRequestOf q ≡ request.Accepted n → judgeRequestOf r ≡ request.Accepted m → TypedTree (bookOf b)
+    → FoundAlike (bagsOf q) (bagsOf r) → (outcomeOf b q room ≡ outcomeOf b r room) × (dutiesOf b q ≡ dutiesOf b r)

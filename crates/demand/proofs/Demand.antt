@@ -53,7 +53,7 @@ use Rattle.demand.proofs.Course.{course, fresh-allowed}
 use Rattle.layout.specs.Room.{roomP}
 
 -- keys and numbers that are read from bytes fit
-key-small : (b : List ℕ) → Bytes b → (i : ℕ) → keyAt b i < 4294967296
+pub key-small : (b : List ℕ) → Bytes b → (i : ℕ) → keyAt b i < 4294967296
 unfolding keyAt
 key-small b w i =
     let a = w (i * size + 4) in
@@ -73,7 +73,7 @@ unfolding matchAt comparisonAt testAt
 tests-small b w i = (key-small b w i, key-small b w i)
 
 tree-small : (b : List ℕ) → Bytes b → InTree Key Short (bookOf b)
-tree-small b w = book-has b Key Short (tests-small b w) (λ i e. number-small b w i)
+tree-small b w = book-has b Key Short (tests-small b w) (λ i e. number-small b w i) (key-small b w)
 
 -- what acceptance gives
 record Sizes (b : List ℕ) (n : ℕ) : Type 0 where

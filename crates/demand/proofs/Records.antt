@@ -5,13 +5,14 @@ use mathlib.Core.Logic.{inl, inr, ⊎-elim}
 use mathlib.Core.List.{List}
 use lib.ListN.{getD}
 use native.Mathlib.Omega.{arith}
+use Rattle.record.specs.Bytes.{Bytes}
 use Rattle.meaning.specs.Meaning.{decides, obliges}
 use Rattle.meaning.specs.Policy.{Tree}
 use Rattle.meaning.specs.Reading.{bookOf}
 use Rattle.meaning.specs.declared.Test.{Test}
 use Rattle.meaning.specs.declared.Decision.{Decision}
 use Rattle.meaning.specs.declared.Effect.the-variants.{Permits, Denies}
-use Rattle.layout.specs.Entry.{Entry, begin, match, further, opens, compare, close, rule, enter, applies, conclude, oblige, leave, finish}
+use Rattle.layout.specs.Entry.{Entry, begin, match, further, opens, compare, close, sum, rule, enter, applies, conclude, oblige, leave, finish}
 use Rattle.moves.specs.Core.{atOnce}
 use Rattle.programme.specs.Step.{freshOf}
 use Rattle.layout.proofs.Spelling.{Holds}
@@ -42,6 +43,7 @@ number-of N further v o h = absurd o
 number-of N (opens op) v o h = absurd o
 number-of N (compare t n) v o h = absurd o
 number-of N (close n) v o h = absurd o
+number-of N (sum p) v o h = absurd o
 number-of N (rule e n) v o h = absurd o
 number-of N (enter al) v o h = absurd o
 number-of N (applies n) v o h = absurd o
@@ -51,11 +53,11 @@ number-of N (leave n) v o h = absurd o
 number-of N finish v o h = absurd o
 
 -- the entries of a book's programme hold only the numbers of its obligation records
-numbered : (b : List ℕ) → obligations Permits (bookOf b) ≤ roomP → Padded Any (Numbers b) (translated (bookOf b))
+numbered : (b : List ℕ) → Bytes b → obligations Permits (bookOf b) ≤ roomP → Padded Any (Numbers b) (translated (bookOf b))
 unfolding translated
-numbered b fits =
+numbered b bytes fits =
     let x : Tree = bookOf b in
-    let has : InTree Any (Numbers b) x = book-has b Any (Numbers b) (λ i. (tt, tt)) (λ i e. record { place = i; kind = e; number = refl }) in
+    let has : InTree Any (Numbers b) x = book-has b Any (Numbers b) (λ i. (tt, tt)) (λ i e. record { place = i; kind = e; number = refl }) (demand.key-small b bytes) in
     padded Any (Numbers b) x has (obligations Permits x) ((obligations Denies x - 1) / atOnce) fits
 
 pub only-records : OnlyRecords
@@ -75,5 +77,5 @@ only-records b n o bytes accepted g budget k =
     let h = on-the-way p es g (s .same) (s .long) (s .reads) (s .laws) d os (s .answers g) (z .step) l in
     let at : ℕ = headOf (afterSteps p g (z .step) freshOf) .at in
     let e : entryAt p (afterSteps p g (z .step) freshOf) ≡ getD es at further = s .reads at (h .inside) (h .starts) in
-    inr (z, number-of (Numbers b) (getD es at further) v (rw e at (z .obliges)) (spelled (numbered b (s .permitted)) at (h .inside) (h .starts) .holds)))
+    inr (z, number-of (Numbers b) (getD es at further) v (rw e at (z .obliges)) (spelled (numbered b bytes (s .permitted)) at (h .inside) (h .starts) .holds)))
     (only-met p g budget k)

@@ -4,19 +4,19 @@ use Prim.Native.Nat.{ℕ, zero, suc, _+_, _-_, _*_, _/_, _≤_, _<_}
 use mathlib.Core.Path.{_≡_, refl, sym, ap, _∙_}
 use mathlib.Core.Bool.{Bool, true, false}
 use mathlib.Core.List.{List, [], _∷_, _++_, append-nil, append-assoc}
-use lib.Dec.{eqb}
+use lib.Dec.{eqb, ltb}
 use lib.ListN.{length, set as store, replicate, length-append, length-replicate}
 use lib.Seq.{sets, set-comm}
 use native.Mathlib.Omega.{arith}
 use native.Mathlib.Nat.{add-zero}
-use borrow.Author.Tests.{eq-eqb, ne-eqb, eqb-true, eqb-false}
+use borrow.Author.Tests.{eq-eqb, ne-eqb, eqb-true, eqb-false, le-ltb}
 use Rattle.record.specs.Choose.{if}
 use Rattle.record.specs.Bytes.{size, byteOf}
 use Rattle.record.specs.Forest.{Forest, spanIn, forest}
 use Rattle.record.proofs.Forests.{forest-none, forest-more}
 use Rattle.meaning.specs.Policy.{last, more, Conjunction, Section, Target, compares, all, any}
 use Rattle.meaning.specs.Meaning.{overRules, overPolicies, same}
-use Rattle.meaning.specs.Reading.{isKind, isParty, choiceAt, comparisonAt, sectionAt, targetIn, notAt, conditionAt, conditionsIn, whenIn, effectOf, ruleAt, rulesIn, obligationsIn, rulesBy, policiesBy, treeAt, treesIn, bookOf}
+use Rattle.meaning.specs.Reading.{isKind, isParty, choiceAt, comparisonAt, sectionAt, targetIn, notAt, exprsIn, weighsAt, conditionAt, conditionsIn, whenIn, effectOf, ruleAt, rulesIn, obligationsIn, rulesBy, policiesBy, treeAt, treesIn, bookOf}
 use Rattle.meaning.proofs.Cases.{tree-by}
 use Rattle.meaning.specs.declared.Test.{Test}
 use Rattle.meaning.specs.declared.Effect.{Effect}
@@ -44,7 +44,7 @@ sets-before l k (x ∷ xs) ys =
     let e : k + suc (length xs) ≡ suc k + length xs = omega arith in
     rw (e, set-sets l k (suc k + length xs) x ys (omega arith)) (sets-before (store l k x) (suc k) xs ys)
 
-wrote-both : {xs ys : List ℕ} {end mid start : ℕ} {o o₁ o₂ : List ℕ} → Wrote ys end o o₁ mid → Wrote xs mid o₁ o₂ start → Wrote (xs ++ ys) end o o₂ start
+pub wrote-both : {xs ys : List ℕ} {end mid start : ℕ} {o o₁ o₂ : List ℕ} → Wrote ys end o o₁ mid → Wrote xs mid o₁ o₂ start → Wrote (xs ++ ys) end o o₂ start
 wrote-both {xs} {ys} {end} {mid} {start} {o} {o₁} {o₂} f g =
     let l = length-append xs ys in
     let e : mid ≡ start + length xs = omega (arith, g .starts) in
@@ -149,7 +149,7 @@ unfolding inNumbers wordsOf
 further-none zero = refl
 further-none (suc k) = further-none k
 
-entry : (e : Entry) {ws : List ℕ} {end start : ℕ} {o o₁ : List ℕ} → wordsOf e ≡ ws → length ws ≡ suc (extra e) → Wrote ws end o o₁ start
+pub entry : (e : Entry) {ws : List ℕ} {end start : ℕ} {o o₁ : List ℕ} → wordsOf e ≡ ws → length ws ≡ suc (extra e) → Wrote ws end o o₁ start
     → Emitted (e ∷ replicate (extra e) further) end o o₁ start
 unfolding inNumbers
 entry e {ws} {end} {start} {o} {o₁} w l f =
@@ -227,14 +227,17 @@ module _ (b : List ℕ) where
   target-more i left s x mid end h k e f =
       record { joined = rw (forest-more b i left h e, is-kind b i 4 k) (first-of (sectionAt b i (below b i s)) (targetIn b (forest b (i + s) (left - s))) x mid end f) }
 
-  -- conditions
-  pub condition-zero : (i s n : ℕ) → byteOf b i 1 ≡ 0 → conditionCode b i s n ≡ compare (comparisonAt b i) n ∷ further ∷ []
+  -- conditions; choices between those that join parts and those that compare two operands are of a literal with an attribute
+  condition-other : (i s n : ℕ) → (byteOf b i 1 ≡ 1 → ⊥) → (byteOf b i 1 ≡ 2 → ⊥) → (byteOf b i 1 ≡ 3 → ⊥) → byteOf b i 1 ≤ 20
+      → conditionCode b i s n ≡ compare (comparisonAt b i) n ∷ further ∷ []
   unfolding conditionCode conditionAt codeCondition
-  condition-zero i s n e = rw (ne-eqb (byteOf b i 1) 1 (λ z. omega (arith, e, z)), ne-eqb (byteOf b i 1) 2 (λ z. omega (arith, e, z)), ne-eqb (byteOf b i 1) 3 (λ z. omega (arith, e, z))) refl
+  condition-other i s n p q r e = rw (ne-eqb (byteOf b i 1) 1 p, ne-eqb (byteOf b i 1) 2 q, ne-eqb (byteOf b i 1) 3 r, le-ltb 20 (byteOf b i 1) e) refl
 
-  pub condition-high : (i s n : ℕ) → 3 < byteOf b i 1 → conditionCode b i s n ≡ compare (comparisonAt b i) n ∷ further ∷ []
-  unfolding conditionCode conditionAt codeCondition
-  condition-high i s n e = rw (ne-eqb (byteOf b i 1) 1 (λ z. omega (arith, e, z)), ne-eqb (byteOf b i 1) 2 (λ z. omega (arith, e, z)), ne-eqb (byteOf b i 1) 3 (λ z. omega (arith, e, z))) refl
+  pub condition-zero : (i s n : ℕ) → byteOf b i 1 ≡ 0 → conditionCode b i s n ≡ compare (comparisonAt b i) n ∷ further ∷ []
+  condition-zero i s n e = condition-other i s n (λ z. omega (arith, e, z)) (λ z. omega (arith, e, z)) (λ z. omega (arith, e, z)) (omega (arith, e))
+
+  pub condition-low : (i s n : ℕ) → 3 < byteOf b i 1 → byteOf b i 1 ≤ 20 → conditionCode b i s n ≡ compare (comparisonAt b i) n ∷ further ∷ []
+  condition-low i s n e f = condition-other i s n (λ z. omega (arith, e, z)) (λ z. omega (arith, e, z)) (λ z. omega (arith, e, z)) f
 
   pub condition-bare : (i s n : ℕ) → byteOf b i 1 ≡ 3 → s ≡ 1 → conditionCode b i s n ≡ compare (comparisonAt b i) n ∷ further ∷ []
   unfolding conditionCode conditionAt codeCondition conditionsIn
@@ -253,7 +256,7 @@ module _ (b : List ℕ) where
   condition-parts i s n p q r = go (eqb (byteOf b i 1) 1) refl
     where
       go : (x : Bool) → eqb (byteOf b i 1) 1 ≡ x
-          → Three (codeCondition (if (eqb (byteOf b i 1) 1) (all (conditionsIn b (below b i s))) (if (eqb (byteOf b i 1) 2) (any (conditionsIn b (below b i s))) (if (eqb (byteOf b i 1) 3) (notAt b i (conditionsIn b (below b i s))) (compares (comparisonAt b i))))) n)
+          → Three (codeCondition (if (eqb (byteOf b i 1) 1) (all (conditionsIn b (below b i s))) (if (eqb (byteOf b i 1) 2) (any (conditionsIn b (below b i s))) (if (eqb (byteOf b i 1) 3) (notAt b i (conditionsIn b (below b i s))) (if (ltb 20 (byteOf b i 1)) (weighsAt b i (exprsIn b (below b i s))) (compares (comparisonAt b i)))))) n)
           (opens (if (eqb (byteOf b i 1) 1) All Any) ∷ []) (codeConditions (conditionsIn b (below b i s))) (close n ∷ [])
       go true e = record { joined = rw e refl }
       go false e = record { joined = rw (e, eq-eqb (byteOf b i 1) 2 (two e)) refl }

@@ -2,9 +2,13 @@
 use crate::CLOSE;
 use crate::COMPARE;
 use crate::OPENS;
+use crate::function_code;
 use crate::prepend;
 use crate::single;
 use crate::test_word;
+use crate::values::TESTS;
+use crate::values::operands;
+use crate::values::piece;
 use elders::Elders;
 use elders::elder;
 use meaning::Test;
@@ -14,7 +18,7 @@ ghost use Prim.Native.Nat.{_+_, _*_, _-_, _<_, _≤_};
 ghost use lib.ListN.{length};
 ghost use Rattle.record.specs.Bytes.{size, mostRecords};
 ghost use Rattle.record.specs.Forest.{forest};
-ghost use Rattle.meaning.specs.Reading.{comparisonAt};
+ghost use Rattle.meaning.specs.Reading.{choiceAt, comparisonAt};
 ghost use Rattle.layout.specs.Entry.{further, compare};
 ghost use Rattle.layout.specs.Layout.{testWord};
 ghost use Rattle.emission.specs.Emit.{Emitted, conditionCode, conditionsCode, whenCode};
@@ -39,6 +43,26 @@ fn comparison(book: &[u8], i: usize, n: usize, out: &mut [u64], end: usize) -> u
     prepend(out, literal, compare_word(t, n))
 }
 
+// The comparison at record i, which ends at `stop`: by a choice above 20 of its two operands; without two it counts as one of a literal with an attribute.
+fn weighing(book: &[u8], i: usize, stop: usize, n: usize, out: &mut [u64], end: usize) -> usize
+    requires { ⌜ (i < stop) × (stop * size ≤ length (now book)) × (3 < choiceAt (now book) i) × (length (conditionCode (now book) i (stop - i) n) ≤ end) × (n < 32768) ⌝ }
+    ensures { λ r. ⌜ Emitted (conditionCode (now (book .entry)) i (stop - i) n) end (now (out .entry)) (now (out .exit)) r ⌝ }
+{
+    let choice = record::byte(book, i, 1);
+    if choice <= 20 {
+        return comparison(book, i, n, out, end);
+    }
+    let second = weigh::second_in(book, i, stop);
+    if second == stop {
+        return comparison(book, i, n, out, end);
+    }
+    let f = value::function_of(choice - 20);
+    let kind = weigh::type_at(book, i + 1);
+    let foot = single(out, end, CLOSE, n);
+    let test = piece(out, foot, TESTS, function_code(f) + 8 * kind as u64);
+    operands(book, i, second, stop, out, test)
+}
+
 // The condition at record i, whose parts end at `stop`: choices 1 to 3 have parts, of which not takes the first; a not without parts counts as a comparison.
 fn condition(
     book: &[u8],
@@ -58,7 +82,7 @@ fn condition(
         return comparison(book, i, n, out, end);
     }
     if 3 < choice {
-        return comparison(book, i, n, out, end);
+        return weighing(book, i, stop, n, out, end);
     }
     let inner = i + 1;
     if choice == 3 {

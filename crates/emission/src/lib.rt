@@ -2,6 +2,7 @@
 pub mod conditions;
 pub mod dues;
 pub mod targets;
+pub mod values;
 
 use layout::bit;
 use meaning::Test;
@@ -39,6 +40,8 @@ pub const LEAVE: u64 = 10;
 
 pub const FINISH: u64 = 11;
 
+pub const SUM: u64 = 12;
+
 // A store that a slice without the place ignores, so that the length of a programme is found without writing it.
 fn put(out: &mut [u64], at: usize, number: u64)
     ensures { λ r. ⌜ now (out .exit) ≡ set (now (out .entry)) at number ⌝ }
@@ -67,7 +70,7 @@ pub fn single(out: &mut [u64], end: usize, op: u64, field: usize) -> usize
 }
 
 // The number of a function.
-fn function_code(f: Function) -> u64
+pub fn function_code(f: Function) -> u64
     ensures { λ r. ⌜ (r ≡ functionCode f) × (r < 8) ⌝ }
 {
     match f {

@@ -5,34 +5,30 @@ use mathlib.Core.List.{List}
 use Prim.Native.Nat.{ℕ, zero, suc, _+_, _-_, _*_, _/_, _%_, _^_, _≤_, _<_}
 use native.Mathlib.Nat.{add-zero}
 use native.Mathlib.Omega.{arith}
-use lib.Dec.{eqb}
+use lib.Dec.{eqb, ltb}
 use lib.ListN.{getD}
-use borrow.Author.Tests.{le-leb, lt-leb, eq-eqb, ne-eqb}
+use borrow.Author.Tests.{le-leb, lt-leb, eq-eqb, ne-eqb, ltb-true, ltb-false}
 use Rattle.record.specs.Choose.{if, both, among}
 use Rattle.record.specs.Bytes.{size, Bytes, byteOf, spanOf, bigOf}
 use Rattle.record.specs.Below.{allBelow}
-use Rattle.record.proofs.Choose.{above-among}
+use Rattle.record.proofs.Choose.{below-among, above-among}
 use Rattle.record.proofs.Below.{all-same, all-split}
 use Rattle.value.specs.Value.{finiteOf}
 use Rattle.fields.specs.First.{countBelow}
-use Rattle.fields.specs.Fields.{categoryOk, typeOf, typeAt, finite, valueOk, functionOk, zeros, plainOk, sectionOk, comparesOk, obligationOk, obligationsOf}
+use Rattle.fields.specs.Fields.{categoryOk, typeOf, typeAt, finite, valueOk, functionOk, zeros, plainOk, sectionOk, comparesOk, obligationOk, literalOk, attributeOk, obligationsOf}
 use Rattle.fields.specs.Entries.{entryOk}
 use Rattle.fields.specs.declared.Sort.{Sort}
-use Rattle.fields.proofs.First.{count-more, count-le}
+use Rattle.fields.proofs.First.{by, count-more, count-le}
 
--- a choice that is neither 1 nor 2, and one that is not 3
+-- a choice that is neither 1 nor 2, and one that is not n
 pub not-logic : (c : ℕ) → (c ≡ 1 → ⊥) → (c ≡ 2 → ⊥) → among 1 2 c ≡ false
 not-logic zero p q = refl
 not-logic (suc zero) p q = absurd (p refl)
 not-logic (suc (suc zero)) p q = absurd (q refl)
 not-logic (suc (suc (suc c))) p q = above-among 1 2 (suc (suc (suc c))) (omega arith)
 
-pub not-three : (c : ℕ) → (c ≡ 3 → ⊥) → among 3 3 c ≡ false
-not-three zero p = refl
-not-three (suc zero) p = refl
-not-three (suc (suc zero)) p = refl
-not-three (suc (suc (suc zero))) p = absurd (p refl)
-not-three (suc (suc (suc (suc c)))) p = above-among 3 3 (suc (suc (suc (suc c)))) (omega arith)
+pub not-only : (n c : ℕ) → (c ≡ n → ⊥) → among n n c ≡ false
+not-only n c p = by (ltb c n) (λ t. below-among n n c (ltb-true c n t)) (λ t. above-among n n c (omega (arith, ltb-false c n t)))
 
 -- the exponent of a value, from its first two bytes or from its number; and so whether it is a finite double
 exponent : (b : List ℕ) (i : ℕ) → Bytes b → bigOf b (i * size + 8) 8 / 2 ^ 52 % 2048 ≡ byteOf b i 8 % 128 * 16 + byteOf b i 9 / 16
@@ -169,6 +165,46 @@ module _ (b : List ℕ) (i : ℕ) {t : ℕ} (et : t ≡ spanOf b i) where
     pub obligation-rest : x ≡ 0 → {y : ℕ} → y ≡ bigOf b (i * size + 8) 8 → eqb y 0 ≡ obligationOk b i
     unfolding obligationOk
     obligation-rest e ey = rw (← et, eq-eqb t 1 h, but-6 b i ey ex, eq-eqb x 0 e)
+
+-- a literal
+module _ (b : List ℕ) (i : ℕ) {t : ℕ} (et : t ≡ spanOf b i) where
+  pub literal-span : (t ≡ 1 → ⊥) → false ≡ literalOk b i
+  unfolding literalOk
+  literal-span n = rw (← et, ne-eqb t 1 n)
+
+  module _ (h : t ≡ 1) {w : ℕ} (ew : w ≡ byteOf b i 4) where
+    pub literal-front : (w ≡ 0 → ⊥) → false ≡ literalOk b i
+    unfolding literalOk
+    literal-front n = rw (← et, eq-eqb t 1 h, zeros-one b i 4, ← ew, ne-eqb w 0 n)
+
+    module _ (z : w ≡ 0) {c : ℕ} {k : Sort} {n v : Bool} (ec : c ≡ byteOf b i 5) (ek : k ≡ typeOf c) (en : n ≡ finite b i) (ev : v ≡ valueOk k n) where
+      pub literal-value : v ≡ false → false ≡ literalOk b i
+      unfolding literalOk
+      literal-value q = rw (← et, eq-eqb t 1 h, zeros-one b i 4, ← ew, eq-eqb w 0 z, ← ec, ← ek, ← en, ← ev, q)
+
+      pub literal-rest : v ≡ true → {x : ℕ} → x ≡ bigOf b (i * size + 6) 2 → eqb x 0 ≡ literalOk b i
+      unfolding literalOk
+      literal-rest q ex = rw (← et, eq-eqb t 1 h, zeros-one b i 4, ← ew, eq-eqb w 0 z, ← ec, ← ek, ← en, ← ev, q, zeros-big b i 6 8, ← ex)
+
+-- an attribute
+module _ (b : List ℕ) (i : ℕ) {t : ℕ} (et : t ≡ spanOf b i) where
+  pub attribute-span : (t ≡ 1 → ⊥) → false ≡ attributeOk b i
+  unfolding attributeOk
+  attribute-span n = rw (← et, ne-eqb t 1 n)
+
+  module _ (h : t ≡ 1) {c : ℕ} {u : Bool} (ec : c ≡ byteOf b i 4) (eu : u ≡ categoryOk c) where
+    pub attribute-category : u ≡ false → false ≡ attributeOk b i
+    unfolding attributeOk
+    attribute-category q = rw (← et, eq-eqb t 1 h, ← ec, ← eu, q)
+
+    module _ (q : u ≡ true) {k : Sort} {v : Bool} (ek : k ≡ typeAt b i) (ev : v ≡ valueOk k true) where
+      pub attribute-value : v ≡ false → false ≡ attributeOk b i
+      unfolding attributeOk
+      attribute-value z = rw (← et, eq-eqb t 1 h, ← ec, ← eu, q, ← ek, ← ev, z)
+
+      pub attribute-rest : v ≡ true → {y : ℕ} → y ≡ bigOf b (i * size + 8) 8 → eqb y 0 ≡ attributeOk b i
+      unfolding attributeOk
+      attribute-rest z ey = rw (← et, eq-eqb t 1 h, ← ec, ← eu, q, ← ek, ← ev, z, back b i ey)
 
 -- an entry of a request
 module _ (q : List ℕ) (i : ℕ) {c : ℕ} {u : Bool} (ec : c ≡ byteOf q i 0) (eu : u ≡ categoryOk c) where

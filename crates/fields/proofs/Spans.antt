@@ -9,9 +9,9 @@ use borrow.Author.Tests.{leb-true, eqb-true}
 use Rattle.record.specs.Choose.{both}
 use Rattle.record.specs.Bytes.{size, byteOf, spanOf}
 use Rattle.record.proofs.Choose.{no-false, both-left, both-right}
-use Rattle.fields.specs.Fields.{kindAt, categoryOk, zeros, plainOk, sectionOk, comparesOk, obligationOk, rulesOf, fieldOk}
+use Rattle.fields.specs.Fields.{kindAt, categoryOk, zeros, plainOk, sectionOk, comparesOk, obligationOk, literalOk, attributeOk, rulesOf, fieldOk}
 use Rattle.fields.specs.declared.Kind.{Kind}
-use Rattle.fields.specs.declared.Kind.the-variants.{PolicySet, Policy, Rule, Section, Conjunction, Match, Logic, Not, Comparison, Obligation, Nothing}
+use Rattle.fields.specs.declared.Kind.the-variants.{PolicySet, Policy, Rule, Section, Conjunction, Match, Logic, Not, Comparison, Weighing, Obligation, Literal, Attribute, Operator, Nothing}
 
 pub plain-span : (b : List ℕ) (i s : ℕ) → plainOk b i s ≡ true → s ≤ spanOf b i
 unfolding plainOk
@@ -26,26 +26,26 @@ section-is b i e =
     let low : Bool = leb 1 (byteOf b i 4) in
     (leb-true 2 (spanOf b i) (both-left s (both c z) e), leb-true 1 (byteOf b i 4) (both-left low _ (both-left c z (both-right s (both c z) e))))
 
-alone-compares : (b : List ℕ) (i f : ℕ) → comparesOk b i f ≡ true → spanOf b i ≡ 1
-unfolding comparesOk
-alone-compares b i f e = eqb-true (spanOf b i) 1 (both-left (eqb (spanOf b i) 1) _ e)
-
-alone-obligation : (b : List ℕ) (i : ℕ) → obligationOk b i ≡ true → spanOf b i ≡ 1
-unfolding obligationOk
-alone-obligation b i e = eqb-true (spanOf b i) 1 (both-left (eqb (spanOf b i) 1) _ e)
+alone : (s : ℕ) (rest : Bool) → both (eqb s 1) rest ≡ true → 1 ≤ s
+alone s rest e = omega (arith, eqb-true s 1 (both-left (eqb s 1) rest e))
 
 -- a record that keeps the field rules states a span of at least 1
 span-of : (b : List ℕ) (i : ℕ) (k : Kind) → rulesOf b i k ≡ true → 1 ≤ spanOf b i
+unfolding comparesOk obligationOk literalOk attributeOk
 span-of b i PolicySet e = plain-span b i 1 e
 span-of b i Policy e = plain-span b i 1 e
 span-of b i Rule e = plain-span b i 1 e
 span-of b i Section e = omega (arith, section-is b i e .0)
 span-of b i Conjunction e = omega (arith, plain-span b i 2 e)
-span-of b i Match e = omega (arith, alone-compares b i (byteOf b i 1) e)
+span-of b i Match e = alone (spanOf b i) _ e
 span-of b i Logic e = plain-span b i 1 e
 span-of b i Not e = omega (arith, plain-span b i 2 e)
-span-of b i Comparison e = omega (arith, alone-compares b i (byteOf b i 1 - 10) e)
-span-of b i Obligation e = omega (arith, alone-obligation b i e)
+span-of b i Comparison e = alone (spanOf b i) _ e
+span-of b i Weighing e = plain-span b i 1 e
+span-of b i Obligation e = alone (spanOf b i) _ e
+span-of b i Literal e = alone (spanOf b i) _ e
+span-of b i Attribute e = alone (spanOf b i) _ e
+span-of b i Operator e = plain-span b i 1 e
 span-of b i Nothing e = no-false e
 
 pub span-pos : (b : List ℕ) (i : ℕ) → fieldOk b i ≡ true → 1 ≤ spanOf b i

@@ -10,7 +10,7 @@ use Rattle.record.specs.Below.{allBelow}
 use Rattle.value.specs.Value.{finiteOf}
 use Rattle.fields.specs.First.{countBelow}
 use Rattle.fields.specs.declared.Kind.{Kind}
-use Rattle.fields.specs.declared.Kind.the-variants.{PolicySet, Policy, Rule, Section, Conjunction, Match, Logic, Not, Comparison, Obligation, Nothing}
+use Rattle.fields.specs.declared.Kind.the-variants.{PolicySet, Policy, Rule, Section, Conjunction, Match, Logic, Not, Comparison, Weighing, Obligation, Literal, Attribute, Operator, Nothing}
 use Rattle.fields.specs.declared.Sort.{Sort}
 use Rattle.fields.specs.declared.Sort.the-variants.{Integer, Name, Double, Other}
 
@@ -23,9 +23,10 @@ kindOf k c =
     (if (eqb k 4) (if (among 0 0 c) Section Nothing)
     (if (eqb k 5) (if (among 0 0 c) Conjunction Nothing)
     (if (eqb k 6) (if (among 1 5 c) Match Nothing)
-    (if (eqb k 7) (if (among 1 2 c) Logic (if (among 3 3 c) Not (if (among 11 15 c) Comparison Nothing)))
+    (if (eqb k 7) (if (among 1 2 c) Logic (if (among 3 3 c) Not (if (among 11 15 c) Comparison (if (among 21 25 c) Weighing Nothing))))
     (if (eqb k 8) (if (among 1 2 c) Obligation Nothing)
-    Nothing)))))))
+    (if (eqb k 10) (if (among 1 1 c) Literal (if (among 2 2 c) Attribute (if (among 3 8 c) Operator Nothing)))
+    Nothing))))))))
 
 -- what record i is
 unfoldable pub kindAt : List ℕ → ℕ → Kind
@@ -85,6 +86,22 @@ comparesOk b i f =
 unfoldable pub obligationOk : List ℕ → ℕ → Bool
 obligationOk b i = both (eqb (spanOf b i) 1) (both (zeros b i 4 6) (zeros b i 8 size))
 
+-- a literal: nothing below it; it uses bytes 5, which never has 128, and 8 to 15
+unfoldable pub literalOk : List ℕ → ℕ → Bool
+literalOk b i =
+    both (eqb (spanOf b i) 1)
+    (both (zeros b i 4 5)
+    (both (valueOk (typeOf (byteOf b i 5)) (finite b i))
+    (zeros b i 6 8)))
+
+-- an attribute: nothing below it; it uses bytes 4 to 7
+unfoldable pub attributeOk : List ℕ → ℕ → Bool
+attributeOk b i =
+    both (eqb (spanOf b i) 1)
+    (both (categoryOk (byteOf b i 4))
+    (both (valueOk (typeAt b i) true)
+    (zeros b i 8 size)))
+
 -- the field rules of record i, by what it is
 abbrev pub rulesOf : List ℕ → ℕ → Kind → Bool
 rulesOf b i PolicySet = plainOk b i 1
@@ -96,7 +113,11 @@ rulesOf b i Match = comparesOk b i (byteOf b i 1)
 rulesOf b i Logic = plainOk b i 1
 rulesOf b i Not = plainOk b i 2
 rulesOf b i Comparison = comparesOk b i (byteOf b i 1 - 10)
+rulesOf b i Weighing = plainOk b i 1
 rulesOf b i Obligation = obligationOk b i
+rulesOf b i Literal = literalOk b i
+rulesOf b i Attribute = attributeOk b i
+rulesOf b i Operator = plainOk b i 1
 rulesOf b i Nothing = false
 
 unfoldable pub fieldOk : List ℕ → ℕ → Bool

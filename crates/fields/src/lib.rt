@@ -12,9 +12,9 @@ ghost use lib.ListN.{length};
 ghost use Rattle.record.specs.Choose.{if, among};
 ghost use Rattle.record.specs.Bytes.{size};
 ghost use Rattle.fields.specs.First.{firstFrom};
-ghost use Rattle.fields.specs.Fields.{kindOf, kindAt, categoryOk, typeOf, typeAt, finite, valueOk, functionOk, plainOk, sectionOk, comparesOk, obligationOk, rulesOf, fieldOk, obligationsOf};
+ghost use Rattle.fields.specs.Fields.{kindOf, kindAt, categoryOk, typeOf, typeAt, finite, valueOk, functionOk, plainOk, sectionOk, comparesOk, obligationOk, literalOk, attributeOk, rulesOf, fieldOk, obligationsOf};
 ghost use Rattle.fields.specs.Entries.{entryOk};
-ghost use Rattle.fields.specs.declared.Kind.the-variants.{Nothing};
+ghost use Rattle.fields.specs.declared.Kind.the-variants.{Comparison, Weighing, Nothing};
 
 pub enum Kind {
     PolicySet,
@@ -26,7 +26,11 @@ pub enum Kind {
     Logic,
     Not,
     Comparison,
+    Weighing,
     Obligation,
+    Literal,
+    Attribute,
+    Operator,
     Nothing,
 }
 
@@ -50,6 +54,16 @@ fn choose(k: Kind, c: usize, low: usize, high: usize) -> Kind
     k
 }
 
+// A comparison with a value of its own, or one of two values.
+fn comparison(c: usize) -> Kind
+    ensures { λ r. ⌜ r ≡ if (among 11 15 c) Comparison (if (among 21 25 c) Weighing Nothing) ⌝ }
+{
+    if c < 20 {
+        return choose(Kind::Comparison, c, 11, 15);
+    }
+    choose(Kind::Weighing, c, 21, 25)
+}
+
 pub fn kind_of(k: usize, c: usize) -> Kind
     ensures { λ r. ⌜ r ≡ kindOf k c ⌝ }
 {
@@ -64,9 +78,14 @@ pub fn kind_of(k: usize, c: usize) -> Kind
             1 => Kind::Logic,
             2 => Kind::Logic,
             3 => Kind::Not,
-            _ => choose(Kind::Comparison, c, 11, 15),
+            _ => comparison(c),
         },
         8 => choose(Kind::Obligation, c, 1, 2),
+        10 => match c {
+            1 => Kind::Literal,
+            2 => Kind::Attribute,
+            _ => choose(Kind::Operator, c, 3, 8),
+        },
         _ => Kind::Nothing,
     }
 }
@@ -88,7 +107,7 @@ fn category_ok(c: usize) -> bool
     c <= 4
 }
 
-fn type_of(t: usize) -> Sort
+pub fn type_of(t: usize) -> Sort
     ensures { λ r. ⌜ r ≡ typeOf t ⌝ }
 {
     match t {
@@ -202,6 +221,40 @@ pub fn obligation_ok(book: &[u8], i: usize) -> bool
     big8(book, i * SIZE + 8) == 0
 }
 
+// A literal.
+pub fn literal_ok(book: &[u8], i: usize) -> bool
+    requires { ⌜ (i + 1) * size ≤ length (now book) ⌝ }
+    ensures { λ r. ⌜ r ≡ literalOk (now (book .entry)) i ⌝ }
+{
+    if span(book, i) != 1 {
+        return false;
+    }
+    if byte(book, i, 4) != 0 {
+        return false;
+    }
+    if !value_ok(type_of(byte(book, i, 5)), is_finite(book, i)) {
+        return false;
+    }
+    big2(book, i * SIZE + 6) == 0
+}
+
+// An attribute.
+pub fn attribute_ok(book: &[u8], i: usize) -> bool
+    requires { ⌜ (i + 1) * size ≤ length (now book) ⌝ }
+    ensures { λ r. ⌜ r ≡ attributeOk (now (book .entry)) i ⌝ }
+{
+    if span(book, i) != 1 {
+        return false;
+    }
+    if !category_ok(byte(book, i, 4)) {
+        return false;
+    }
+    if !value_ok(type_at(book, i), true) {
+        return false;
+    }
+    big8(book, i * SIZE + 8) == 0
+}
+
 fn less_ten(c: usize) -> usize
     ensures { λ r. ⌜ r ≡ c - 10 ⌝ }
 {
@@ -225,7 +278,11 @@ fn rules(book: &[u8], i: usize, k: Kind) -> bool
         Kind::Logic => plain_ok(book, i, 1),
         Kind::Not => plain_ok(book, i, 2),
         Kind::Comparison => compares_ok(book, i, less_ten(byte(book, i, 1))),
+        Kind::Weighing => plain_ok(book, i, 1),
         Kind::Obligation => obligation_ok(book, i),
+        Kind::Literal => literal_ok(book, i),
+        Kind::Attribute => attribute_ok(book, i),
+        Kind::Operator => plain_ok(book, i, 1),
         Kind::Nothing => false,
     }
 }

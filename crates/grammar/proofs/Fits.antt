@@ -9,15 +9,15 @@ use borrow.Author.Tests.{eq-eqb, eqb-true, leb-true}
 use Rattle.record.specs.Choose.{if, both, among}
 use Rattle.record.specs.Bytes.{size, byteOf, spanOf}
 use Rattle.record.proofs.Choose.{no-false, both-left, both-right, both-parts, above-among}
-use Rattle.fields.specs.Fields.{kindOf, kindAt, categoryOk, zeros, sectionOk, comparesOk, obligationOk, rulesOf, fieldOk}
+use Rattle.fields.specs.Fields.{kindOf, kindAt, categoryOk, zeros, sectionOk, comparesOk, obligationOk, literalOk, attributeOk, rulesOf, fieldOk}
 use Rattle.fields.specs.declared.Kind.{Kind}
-use Rattle.fields.specs.declared.Kind.the-variants.{PolicySet, Policy, Rule, Section, Conjunction, Match, Logic, Not, Comparison, Obligation, Nothing}
+use Rattle.fields.specs.declared.Kind.the-variants.{PolicySet, Policy, Rule, Section, Conjunction, Match, Logic, Not, Comparison, Weighing, Obligation, Literal, Attribute, Operator, Nothing}
 use Rattle.fields.proofs.First.{by}
 use Rattle.fields.proofs.Spans.{span-pos}
 use Rattle.placement.specs.Place.{kindNumber}
 use Rattle.grammar.specs.Row.{Fit, isFit}
 
--- document 01's table by kind: its kind byte, its lowest choice and its highest; `Nothing` has no choice
+-- the papers' table by kind: its kind byte, its lowest choice and its highest; `Nothing` has no choice
 abbrev tableOf : Kind → ℕ × ℕ × ℕ
 tableOf PolicySet = (1, 1, 4)
 tableOf Policy = (2, 1, 3)
@@ -28,7 +28,11 @@ tableOf Match = (6, 1, 5)
 tableOf Logic = (7, 1, 2)
 tableOf Not = (7, 3, 3)
 tableOf Comparison = (7, 11, 15)
+tableOf Weighing = (7, 21, 25)
 tableOf Obligation = (8, 1, 2)
+tableOf Literal = (10, 1, 1)
+tableOf Attribute = (10, 2, 2)
+tableOf Operator = (10, 3, 8)
 tableOf Nothing = (0, 1, 0)
 
 abbrev choiceOk : Kind → ℕ → Bool
@@ -36,6 +40,10 @@ choiceOk k c = among (tableOf k .1) (tableOf k .2) c
 
 abbrev inTable : Kind → ℕ → ℕ → Bool
 inTable k n c = both (eqb n (tableOf k .0)) (choiceOk k c)
+
+-- a choice of a kind is at least the lowest
+least : (k : Kind) (c : ℕ) → choiceOk k c ≡ true → tableOf k .1 ≤ c
+least k c e = leb-true (tableOf k .1) c (both-left (leb (tableOf k .1) c) (leb c (tableOf k .2)) e)
 
 -- a record with a kind's byte and one of its choices is of that kind
 of-table : (k : Kind) (c : ℕ) → choiceOk k c ≡ true → kindOf (tableOf k .0) c ≡ k
@@ -47,11 +55,14 @@ of-table Section c e = rw e
 of-table Conjunction c e = rw e
 of-table Match c e = rw e
 of-table Logic c e = rw e
-of-table Not c e = rw (above-among 1 2 c (omega (arith, leb-true 3 c (both-left (leb 3 c) (leb c 3) e))), e)
-of-table Comparison c e =
-    let l : 11 ≤ c = leb-true 11 c (both-left (leb 11 c) (leb c 15) e) in
-    rw (above-among 1 2 c (omega arith), above-among 3 3 c (omega arith), e)
+of-table Not c e = rw (above-among 1 2 c (omega (arith, least Not c e)), e)
+of-table Comparison c e = let l = least Comparison c e in rw (above-among 1 2 c (omega arith), above-among 3 3 c (omega arith), e)
+of-table Weighing c e =
+    let l = least Weighing c e in rw (above-among 1 2 c (omega arith), above-among 3 3 c (omega arith), above-among 11 15 c (omega arith), e)
 of-table Obligation c e = rw e
+of-table Literal c e = rw e
+of-table Attribute c e = rw (above-among 1 1 c (omega (arith, least Attribute c e)), e)
+of-table Operator c e = let l = least Operator c e in rw (above-among 1 1 c (omega arith), above-among 2 2 c (omega arith), e)
 of-table Nothing c e = refl
 
 -- and a record of a kind has its byte and one of its choices
@@ -78,8 +89,9 @@ module _ (n c : ℕ) where
       (test (eqb n 4) (choice Section none)
       (test (eqb n 5) (choice Conjunction none)
       (test (eqb n 6) (choice Match none)
-      (test (eqb n 7) (λ e. choice Logic (choice Not (choice Comparison none e) e) e)
-      (test (eqb n 8) (choice Obligation none) none)))))))
+      (test (eqb n 7) (λ e. choice Logic (choice Not (choice Comparison (choice Weighing none e) e) e) e)
+      (test (eqb n 8) (choice Obligation none)
+      (test (eqb n 10) (λ e. choice Literal (choice Attribute (choice Operator none e) e) e) none))))))))
 
 in-table : (b : List ℕ) (i : ℕ) {k : Kind} → Fit b i k → inTable k (byteOf b i 0) (byteOf b i 1) ≡ true
 unfolding kindAt fieldOk
@@ -89,7 +101,8 @@ in-table b i f = rw (← f .kind) (stands (byteOf b i 0) (byteOf b i 1) (λ q. n
 ofNumber : ℕ → Kind
 ofNumber n =
     if (eqb n 1) PolicySet (if (eqb n 2) Policy (if (eqb n 3) Rule (if (eqb n 4) Section (if (eqb n 5) Conjunction (if (eqb n 6) Match
-    (if (eqb n 71) Logic (if (eqb n 72) Not (if (eqb n 73) Comparison (if (eqb n 8) Obligation Nothing)))))))))
+    (if (eqb n 71) Logic (if (eqb n 72) Not (if (eqb n 73) Comparison (if (eqb n 74) Weighing (if (eqb n 8) Obligation
+    (if (eqb n 101) Literal (if (eqb n 102) Attribute (if (eqb n 103) Operator Nothing)))))))))))))
 
 numbered : (k : Kind) → ofNumber (kindNumber k) ≡ k
 unfolding ofNumber
@@ -102,7 +115,11 @@ numbered Match = refl
 numbered Logic = refl
 numbered Not = refl
 numbered Comparison = refl
+numbered Weighing = refl
 numbered Obligation = refl
+numbered Literal = refl
+numbered Attribute = refl
+numbered Operator = refl
 numbered Nothing = refl
 
 -- what passes the test is a k, and keeps its field rules
@@ -129,7 +146,7 @@ module _ (b : List ℕ) (i : ℕ) (k : Kind) {t : Bool} (et : t ≡ inTable k (b
     listed eu = rw (eqb-true (byteOf b i 0) (tableOf k .0) (found .0), of-table k (byteOf b i 1) (found .1), eq-eqb (kindNumber k) (kindNumber k) refl) eu
 
     pub lowest : tableOf k .1 ≤ byteOf b i 1
-    lowest = leb-true (tableOf k .1) (byteOf b i 1) (both-left (leb (tableOf k .1) (byteOf b i 1)) (leb (byteOf b i 1) (tableOf k .2)) (found .1))
+    lowest = least k (byteOf b i 1) (found .1)
 
 -- a record of kind 08 is an obligation, or nothing
 eight : (c : ℕ) (t : Bool) {k : Kind} → among 1 2 c ≡ t → kindOf 8 c ≡ k → (k ≡ Obligation → ⊥) → Nothing ≡ k
@@ -180,21 +197,32 @@ leaf Match = true
 leaf Logic = false
 leaf Not = false
 leaf Comparison = true
+leaf Weighing = false
 leaf Obligation = true
+leaf Literal = true
+leaf Attribute = true
+leaf Operator = false
 leaf Nothing = false
 
+alone : (s : ℕ) (rest : Bool) → both (eqb s 1) rest ≡ true → s ≡ 1
+alone s rest e = eqb-true s 1 (both-left (eqb s 1) rest e)
+
 leaf-span : (b : List ℕ) (i : ℕ) (k : Kind) → leaf k ≡ true → rulesOf b i k ≡ true → spanOf b i ≡ 1
-unfolding comparesOk obligationOk
+unfolding comparesOk obligationOk literalOk attributeOk
 leaf-span b i PolicySet l e = no-false l
 leaf-span b i Policy l e = no-false l
 leaf-span b i Rule l e = no-false l
 leaf-span b i Section l e = no-false l
 leaf-span b i Conjunction l e = no-false l
-leaf-span b i Match l e = eqb-true (spanOf b i) 1 (both-left (eqb (spanOf b i) 1) _ e)
+leaf-span b i Match l e = alone (spanOf b i) _ e
 leaf-span b i Logic l e = no-false l
 leaf-span b i Not l e = no-false l
-leaf-span b i Comparison l e = eqb-true (spanOf b i) 1 (both-left (eqb (spanOf b i) 1) _ e)
-leaf-span b i Obligation l e = eqb-true (spanOf b i) 1 (both-left (eqb (spanOf b i) 1) _ e)
+leaf-span b i Comparison l e = alone (spanOf b i) _ e
+leaf-span b i Weighing l e = no-false l
+leaf-span b i Obligation l e = alone (spanOf b i) _ e
+leaf-span b i Literal l e = alone (spanOf b i) _ e
+leaf-span b i Attribute l e = alone (spanOf b i) _ e
+leaf-span b i Operator l e = no-false l
 leaf-span b i Nothing l e = no-false l
 
 -- of such a kind the span is 1

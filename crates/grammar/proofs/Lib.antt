@@ -3,3 +3,4 @@ pub mod Fits
 pub mod Parties
 pub mod Parts
 pub mod Rows
+pub mod Values

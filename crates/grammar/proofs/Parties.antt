@@ -21,19 +21,21 @@ use Rattle.placement.specs.Place.{mostDepth, endOf, kindNumber, takesOf, riseOf
 use Rattle.grammar.specs.Row.{Fit, Row, Party, Clean}
 use Rattle.placement.proofs.Laws.{span-end, top-walk, top-ok}
 use Rattle.grammar.proofs.Fits.{other, not-duty, fit-span}
-use Rattle.grammar.proofs.Rows.{row-then}
+use Rattle.grammar.proofs.Rows.{operandsOf, row-then}
 use Rattle.grammar.proofs.Parts.{row-other}
 
 -- a policy or set among the children of a set
 module _ (b : List ℕ) (d gc pc : ℕ) {i e due : ℕ} (x : Party b i e (d + 1) due) (deep : d < mostDepth) where
   of-kind : (k : Kind) → kindAt b i ≡ k → takesOf 1 k ≡ true → riseOf 1 k ≡ 0 → rankOf k (byteOf b i 4) ≡ 5 → underOk k gc (byteOf b i 4) ≡ true
-      → Row b i (endOf b i) e d 1 gc pc 5 5 due
-  of-kind k q takes step five under =
-      row-other b d 1 gc pc 5 (record { kind = q; fields = x .fields }) (span-end b i (spanOf b i) refl) (x .within) takes five (omega (arith, step)) under deep
+      → operandsOf b i k ≡ true → Row b i (endOf b i) e d 1 gc pc 5 5 due
+  of-kind k q takes step five under wants =
+      row-other b d 1 gc pc 5 (record { kind = q; fields = x .fields }) (span-end b i (spanOf b i) refl) (x .within) takes five (omega (arith, step)) under wants deep
       (rw q at (x .below pc))
 
   pub row-party : Row b i (endOf b i) e d 1 gc pc 5 5 due
-  row-party = ⊎-elim (λ (t : kindAt b i ≡ PolicySet). of-kind PolicySet t refl refl refl refl) (λ (t : kindAt b i ≡ Policy). of-kind Policy t refl refl refl refl) (x .kind)
+  row-party =
+      ⊎-elim (λ (t : kindAt b i ≡ PolicySet). of-kind PolicySet t refl refl refl refl refl) (λ (t : kindAt b i ≡ Policy). of-kind Policy t refl refl refl refl refl)
+      (x .kind)
 
 -- the whole book
 module _ (b : List ℕ) {n due : ℕ} (h : 0 < n) (l : length b ≡ n * size) (s : spanOf b 0 ≡ n) (x : Party b 0 n 1 due) where

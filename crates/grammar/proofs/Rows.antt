@@ -1,6 +1,6 @@
 -- Laws of rows: how a pass over sound records goes on, from child to child. Assumes nothing.
 use mathlib.Core.Path.{_≡_, refl, sym, _∙_}
-use mathlib.Core.Bool.{true}
+use mathlib.Core.Bool.{Bool, true}
 use mathlib.Core.List.{List}
 use Prim.Native.Nat.{ℕ, _+_, _-_, _≤_, _<_}
 use native.Mathlib.Omega.{arith}
@@ -12,7 +12,7 @@ use Rattle.fields.specs.Fields.{obligationsOf}
 use Rattle.fields.specs.declared.Kind.{Kind}
 use Rattle.fields.proofs.First.{by, first-reach-all}
 use Rattle.fields.proofs.Laws.{obligations-more}
-use Rattle.placement.specs.Place.{mostDepth, endOf, kindNumber, takesOf, riseOf, underOk, rankOf, standsOk, placeOk}
+use Rattle.placement.specs.Place.{mostDepth, endOf, kindNumber, takesOf, riseOf, underOk, rankOf, standsOk, valueType, twoValues, operandsOk, operandsAt, placeOk}
 use Rattle.placement.specs.Walk.{Walk, Finds}
 use Rattle.grammar.specs.Row.{Fit, Row}
 use Rattle.placement.proofs.Laws.{span-end, rule-zero, Passed, passed, kids, rest}
@@ -45,20 +45,28 @@ module _ (b : List ℕ) {i j e d pn gc pc lo mid m : ℕ} (x : Row b i j e d pn 
     places = λ p r h w. x .places p r (omega arith) w;
   }
 
+-- a k at record i has the operands that it wants
+abbrev pub operandsOf : List ℕ → ℕ → Kind → Bool
+operandsOf b i k = operandsOk k (byteOf b i 1) (valueType b (i + 1)) (twoValues b i)
+
 -- a child, and what is below it
 module _ (b : List ℕ) (d pn gc pc lo : ℕ) {i e end below due : ℕ} {k : Kind} (f : Fit b i k) (ends : end ≡ endOf b i) (inside : i < end) (upto : end ≤ e)
-    (takes : takesOf pn k ≡ true) (after : lo + riseOf pn k ≤ rankOf k (byteOf b i 4)) (under : underOk k gc (byteOf b i 4) ≡ true) (deep : d < mostDepth)
-    (x : Row b (i + 1) end end (d + 1) (kindNumber k) pc (byteOf b i 4) 0 below due) where
+    (takes : takesOf pn k ≡ true) (after : lo + riseOf pn k ≤ rankOf k (byteOf b i 4)) (under : underOk k gc (byteOf b i 4) ≡ true)
+    (wants : operandsOf b i k ≡ true) (deep : d < mostDepth) (x : Row b (i + 1) end end (d + 1) (kindNumber k) pc (byteOf b i 4) 0 below due) where
   stands : (r : ℕ) → r ≤ lo → true ≡ standsOk pn k (byteOf b i 4) r gc
   unfolding standsOk
   stands r h = rw (takes, le-leb (r + riseOf pn k) (rankOf k (byteOf b i 4)) (omega arith), under) refl
+
+  wanted : operandsAt b i ≡ true
+  unfolding operandsAt
+  wanted = rw (f .kind) wants
 
   span-is : end ≡ i + spanOf b i
   span-is = ends ∙ span-end b i (spanOf b i) refl
 
   passes : (p r : ℕ) → r ≤ lo → Walk b p i e d pn gc pc r → Passed b p i e d pn gc pc r k (byteOf b i 4) (i + spanOf b i)
   passes p r h w =
-      passed b w (omega arith) (sym (f .kind)) refl refl (stands r h)
+      passed b w (omega arith) (sym (f .kind)) refl refl (stands r h) (λ z. sym wanted)
       (sym (rule-zero (i + spanOf b i) e (d + 1) true (omega (arith, span-is)) refl (omega arith))) refl
 
   finds : (p : ℕ) (r : ℕ) (h : r ≤ lo) (w : Walk b p i e d pn gc pc r) → ((m : ℕ) → i + 1 ≤ m → m < end → placeOk b m ≡ true)

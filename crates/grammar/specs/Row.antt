@@ -10,7 +10,7 @@ use Rattle.record.specs.Bytes.{byteOf}
 use Rattle.fields.specs.Fields.{kindAt, fieldOk, obligationsOf}
 use Rattle.fields.specs.declared.Kind.{Kind}
 use Rattle.fields.specs.declared.Kind.the-variants.{PolicySet, Policy}
-use Rattle.placement.specs.Place.{endOf, kindNumber, placeOk}
+use Rattle.placement.specs.Place.{endOf, kindNumber, holdsValues, valueType, twoValues, placeOk}
 use Rattle.placement.specs.Walk.{Walk}
 use Rattle.placement.specs.Keeps.{AllKeep}
 
@@ -38,6 +38,24 @@ pub record Row (b : List ℕ) (i j e d pn gc pc lo hi due : ℕ) : Type 0 where
   pub duties : obligationsOf b j ≡ obligationsOf b i + due
   pub places : (p rank : ℕ) → rank ≤ lo → Walk b p i e d pn gc pc rank
       → Went b p j e d pn gc pc hi × ((m : ℕ) → i ≤ m → m < j → placeOk b m ≡ true)
+
+-- the value of type t at record i ends at r, and no record of it runs past; it keeps every rule below a parent that takes values, which ends at e and has
+-- depth d
+pub record Value (b : List ℕ) (i r e d t : ℕ) : Type 0 where
+  pub after : i < r
+  pub upto : r ≤ e
+  pub ends : r ≡ endOf b i
+  pub whole : (m : ℕ) → i ≤ m → m < r → endOf b m ≤ r
+  pub type : valueType b i ≡ t
+  pub row : (pn gc pc lo : ℕ) → holdsValues pn ≡ true → lo ≤ 5 → Row b i r e d pn gc pc lo 5 0
+
+-- record i, whose parent ends at e and has depth d, ends at r, and below it are two such values of type t and no more
+pub record Operands (b : List ℕ) (i r e d t : ℕ) : Type 0 where
+  pub upto : r ≤ e
+  pub ends : r ≡ endOf b i
+  pub whole : (m : ℕ) → i < m → m < r → endOf b m ≤ r
+  pub two : twoValues b i t ≡ true
+  pub row : (pn gc pc : ℕ) → holdsValues pn ≡ true → Row b (i + 1) r r (d + 1) pn gc pc 0 5 0
 
 -- the policy or set at record i ends where `top` is or before, keeps its field rules, and what is below it keeps all rules where it has the depth d; `due`
 -- obligations are below it

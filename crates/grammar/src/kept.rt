@@ -5,7 +5,7 @@ ghost use lib.Dec.{eqb};
 ghost use lib.ListN.{length};
 ghost use Rattle.record.specs.Choose.{both, among};
 ghost use Rattle.record.specs.Bytes.{size, byteOf};
-ghost use Rattle.fields.specs.declared.Kind.the-variants.{PolicySet, Policy, Rule, Section, Conjunction, Match, Logic, Not, Comparison, Obligation};
+ghost use Rattle.fields.specs.declared.Kind.the-variants.{PolicySet, Policy, Rule, Section, Conjunction, Match, Logic, Not, Comparison, Weighing, Obligation, Literal, Attribute, Operator};
 ghost use Rattle.grammar.specs.Row.{isFit};
 
 // Whether record i has this kind, and a choice from low to high.
@@ -113,6 +113,16 @@ pub fn is_comparison(book: &[u8], i: usize) -> bool
     fields::compares_ok(book, i, record::byte(book, i, 1) - 10)
 }
 
+pub fn is_weighing(book: &[u8], i: usize) -> bool
+    requires { ⌜ (i + 1) * size ≤ length (now book) ⌝ }
+    ensures { λ r. ⌜ r ≡ isFit (now (book .entry)) i Weighing ⌝ }
+{
+    if !is(book, i, 7, 21, 25) {
+        return false;
+    }
+    fields::plain_ok(book, i, 1)
+}
+
 pub fn is_obligation(book: &[u8], i: usize) -> bool
     requires { ⌜ (i + 1) * size ≤ length (now book) ⌝ }
     ensures { λ r. ⌜ r ≡ isFit (now (book .entry)) i Obligation ⌝ }
@@ -121,4 +131,34 @@ pub fn is_obligation(book: &[u8], i: usize) -> bool
         return false;
     }
     fields::obligation_ok(book, i)
+}
+
+pub fn is_literal(book: &[u8], i: usize) -> bool
+    requires { ⌜ (i + 1) * size ≤ length (now book) ⌝ }
+    ensures { λ r. ⌜ r ≡ isFit (now (book .entry)) i Literal ⌝ }
+{
+    if !is(book, i, 10, 1, 1) {
+        return false;
+    }
+    fields::literal_ok(book, i)
+}
+
+pub fn is_attribute(book: &[u8], i: usize) -> bool
+    requires { ⌜ (i + 1) * size ≤ length (now book) ⌝ }
+    ensures { λ r. ⌜ r ≡ isFit (now (book .entry)) i Attribute ⌝ }
+{
+    if !is(book, i, 10, 2, 2) {
+        return false;
+    }
+    fields::attribute_ok(book, i)
+}
+
+pub fn is_operator(book: &[u8], i: usize) -> bool
+    requires { ⌜ (i + 1) * size ≤ length (now book) ⌝ }
+    ensures { λ r. ⌜ r ≡ isFit (now (book .entry)) i Operator ⌝ }
+{
+    if !is(book, i, 10, 3, 8) {
+        return false;
+    }
+    fields::plain_ok(book, i, 1)
 }

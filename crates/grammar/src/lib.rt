@@ -9,7 +9,7 @@ ghost use lib.ListN.{length};
 ghost use Rattle.record.specs.Choose.{among};
 ghost use Rattle.record.specs.Bytes.{size};
 ghost use Rattle.placement.specs.Place.{mostDepth, holdsConditions, singleOf};
-ghost use Rattle.grammar.specs.Row.{Row, Party, Clean};
+ghost use Rattle.grammar.specs.Row.{Row, Value, Operands, Party, Clean};
 
 // Whether all records from `from` on are matches of this category.
 fn matches(book: &[u8], from: usize, end: usize, category: usize) -> bool
@@ -102,6 +102,74 @@ fn sections(book: &[u8], from: usize, end: usize, depth: usize) -> usize
     section_row(book, from, end, depth)
 }
 
+// Where the value of type `kind` at record i ends; 0 where it is not sound.
+fn value(book: &[u8], i: usize, end: usize, depth: usize, kind: usize) -> usize
+    requires { ⌜ (i < end) × (end * size ≤ length (now book)) × (depth ≤ mostDepth) ⌝ }
+    ensures { λ r. ⌜ (0 < r → Value (now (book .entry)) i r end depth kind) ⌝ }
+{
+    if MOST_DEPTH <= depth {
+        return 0;
+    }
+    if placement::value_type(book, i) != kind {
+        return 0;
+    }
+    if kept::is_literal(book, i) {
+        return i + 1;
+    }
+    if kept::is_attribute(book, i) {
+        return i + 1;
+    }
+    if !kept::is_operator(book, i) {
+        return 0;
+    }
+    operands(book, i, end, depth, kind)
+}
+
+// Where record i ends, below which there are two values of type `kind` and no more; 0 where it is otherwise, or one of them is not sound.
+fn operands(book: &[u8], i: usize, end: usize, depth: usize, kind: usize) -> usize
+    requires { ⌜ (i < end) × (end * size ≤ length (now book)) × (depth < mostDepth) ⌝ }
+    ensures { λ r. ⌜ (0 < r → Operands (now (book .entry)) i r end depth kind) ⌝ }
+{
+    let next = i + record::span(book, i);
+    if end < next {
+        return 0;
+    }
+    if next <= i + 1 {
+        return 0;
+    }
+    let second = value(book, i + 1, next, depth + 1, kind);
+    if second == 0 {
+        return 0;
+    }
+    if second == next {
+        return 0;
+    }
+    if value(book, second, next, depth + 1, kind) != next {
+        return 0;
+    }
+    next
+}
+
+// Where the comparison of two values at record i ends; 0 where there is none, or it is not sound.
+fn weighing(book: &[u8], i: usize, end: usize, depth: usize) -> usize
+    requires { ⌜ (i < end) × (end * size ≤ length (now book)) × (depth < mostDepth) ⌝ }
+    ensures { λ r. ⌜ (0 < r → (i < r) × (r ≤ end)
+        × ((pn gc pc lo : ℕ) → holdsConditions pn ≡ true → lo + singleOf pn ≤ 5 → Row (now (book .entry)) i r end depth pn gc pc lo 5 0)) ⌝ }
+{
+    if !kept::is_weighing(book, i) {
+        return 0;
+    }
+    // there may be no next record
+    if end == i + 1 {
+        return 0;
+    }
+    let kind = placement::value_type(book, i + 1);
+    if !placement::comparable(kind, record::byte(book, i, 1)) {
+        return 0;
+    }
+    operands(book, i, end, depth, kind)
+}
+
 // Where the condition at record i ends; 0 where it is not sound.
 fn condition(book: &[u8], i: usize, end: usize, depth: usize) -> usize
     requires { ⌜ (i < end) × (end * size ≤ length (now book)) × (depth ≤ mostDepth) ⌝ }
@@ -117,7 +185,7 @@ fn condition(book: &[u8], i: usize, end: usize, depth: usize) -> usize
     joined(book, i, end, depth)
 }
 
-// The same of a condition that has parts: and, or, not. It stands alone so that a comparison costs no call.
+// The same of a condition that has parts: and, or, not, two values. It stands alone so that a comparison costs no call.
 fn joined(book: &[u8], i: usize, end: usize, depth: usize) -> usize
     requires { ⌜ (i < end) × (end * size ≤ length (now book)) × (depth < mostDepth) ⌝ }
     ensures { λ r. ⌜ (0 < r → (i < r) × (r ≤ end)
@@ -134,7 +202,7 @@ fn joined(book: &[u8], i: usize, end: usize, depth: usize) -> usize
         return next;
     }
     if !kept::is_logic(book, i) {
-        return 0;
+        return weighing(book, i, end, depth);
     }
     let mut at = i + 1;
     while at < next {

@@ -9,9 +9,9 @@ use Rattle.record.specs.Below.{allBelow}
 use Rattle.record.proofs.BookA.{bytes, lines, bookA, is40}
 use Rattle.value.specs.Value.{finiteOf}
 use Rattle.fields.specs.First.{countBelow, lastBelow, firstFrom}
-use Rattle.fields.specs.Fields.{kindOf, kindAt, typeOf, typeAt, finite, zeros, plainOk, sectionOk, comparesOk, obligationOk, fieldOk, obligationsOf}
+use Rattle.fields.specs.Fields.{kindOf, kindAt, typeOf, typeAt, finite, zeros, plainOk, sectionOk, comparesOk, obligationOk, literalOk, attributeOk, fieldOk, obligationsOf}
 use Rattle.fields.specs.Entries.{entryOk}
-use Rattle.placement.specs.Place.{endOf, parentOf, elderOf, depthOf, holdsConditions, singleOf, rankAt, elderRank, standsOk, childRule, childBroken, topOk, brokenAt, placeOk}
+use Rattle.placement.specs.Place.{endOf, parentOf, elderOf, depthOf, holdsConditions, singleOf, holdsValues, rankAt, elderRank, standsOk, valueType, isChild, isOperand, twoValues, comparableBy, operandsAt, childRule, childBroken, topOk, brokenAt, placeOk}
 use Rattle.judge.specs.Judge.{judgeRecords, judgeOf}
 use Rattle.judge.specs.Request.{judgeEntries, judgeRequestOf}
 use Rattle.judge.specs.declared.Judged.{Judged}
@@ -28,8 +28,22 @@ unfoldable pub nested : ℕ → List ℕ
 nested zero = []
 nested (suc n) = 1 ∷ 1 ∷ 0 ∷ suc n ∷ 0 ∷ 0 ∷ 0 ∷ 0 ∷ 0 ∷ 0 ∷ 0 ∷ 0 ∷ 0 ∷ 0 ∷ 0 ∷ 0 ∷ nested n
 
+-- a rule whose condition is that environment attribute 7 plus 2 is greater than 50
+unfoldable pub sum : List ℕ
+sum = lines (
+    0x02010007000000000000000000000000
+    ∷ 0x03010006000000000000000000000000
+    ∷ 0x07160005000000000000000000000000
+    ∷ 0x0A030003000000000000000000000000
+    ∷ 0x0A020001040100070000000000000000
+    ∷ 0x0A010001000100000000000000000002
+    ∷ 0x0A010001000100000000000000000032
+    ∷ []
+    )
+
 -- book A; nothing; one byte too many; greater of a name; an obligation's unused byte; line 1's span, and with a field rule on a later line; a span past the
--- parent's end; a rule after an obligation; 16 and 17 nested sets, and in the place of the last a rule, then one that runs past its parent's end
+-- parent's end; a rule after an obligation; 16 and 17 nested sets, and in the place of the last a rule, then one that runs past its parent's end; a
+-- sum, then with a double in it, compared with a name, and a third number in it, which the comparison then lacks
 judged : List Judged
 judged =
     judgeOf a
@@ -44,7 +58,11 @@ judged =
     ∷ judgeOf (nested 16)
     ∷ judgeOf (nested 17)
     ∷ judgeOf (set (nested 17) (16 * size) 3)
-    ∷ judgeOf (set (set (nested 17) (16 * size) 3) (16 * size + 3) 2) ∷ []
+    ∷ judgeOf (set (set (nested 17) (16 * size) 3) (16 * size + 3) 2)
+    ∷ judgeOf sum
+    ∷ judgeOf (set sum (4 * size + 5) 3)
+    ∷ judgeOf (set sum (6 * size + 5) 2)
+    ∷ judgeOf (set sum (3 * size + 3) 4) ∷ []
 
 computed : judged
     ≡ Accepted 6 2
@@ -59,8 +77,12 @@ computed : judged
     ∷ Accepted 16 0
     ∷ Refused (badPlace 12 17)
     ∷ Refused (badPlace 11 17)
-    ∷ Refused (badPlace 10 17) ∷ []
-unfolding a bytes lines bookA nested judged judgeOf judgeRecords spanOf allBelow countBelow lastBelow firstFrom kindOf kindAt typeOf typeAt finite bigOf finiteOf zeros plainOk sectionOk comparesOk obligationOk fieldOk obligationsOf endOf parentOf elderOf depthOf holdsConditions singleOf rankAt elderRank standsOk childRule childBroken topOk brokenAt placeOk
+    ∷ Refused (badPlace 10 17)
+    ∷ Accepted 7 0
+    ∷ Refused (badPlace 11 4)
+    ∷ Refused (badPlace 11 3)
+    ∷ Refused (badPlace 11 3) ∷ []
+unfolding a bytes lines bookA nested sum judged judgeOf judgeRecords spanOf allBelow countBelow lastBelow firstFrom kindOf kindAt typeOf typeAt finite bigOf finiteOf zeros plainOk sectionOk comparesOk obligationOk literalOk attributeOk fieldOk obligationsOf endOf parentOf elderOf depthOf holdsConditions singleOf holdsValues rankAt elderRank standsOk valueType isChild isOperand twoValues comparableBy operandsAt childRule childBroken topOk brokenAt placeOk
 computed = refl
 
 -- the request of document 01's printed example

@@ -9,7 +9,7 @@ use native.Mathlib.Omega.{arith}
 use lib.Dec.{ltb, eqb}
 use lib.ListN.{length}
 use borrow.Author.Tests.{lt-ltb, ltb-false, eq-eqb, ne-eqb, eqb-true, eqb-false}
-use Rattle.record.specs.Choose.{if, either, among}
+use Rattle.record.specs.Choose.{if, both, either, among}
 use Rattle.record.specs.Bytes.{size, byteOf, spanOf}
 use Rattle.record.specs.Forest.{spanIn, growF, forest}
 use Rattle.record.proofs.Choose.{both-parts}
@@ -17,10 +17,10 @@ use Rattle.record.proofs.Forests.{forest-none, forest-step}
 use Rattle.fields.specs.First.{lastBelow, countBelow}
 use Rattle.fields.specs.Fields.{kindAt, fieldOk}
 use Rattle.fields.specs.declared.Kind.{Kind}
-use Rattle.fields.specs.declared.Kind.the-variants.{PolicySet, Policy, Rule, Section, Conjunction, Match, Logic, Not, Comparison, Obligation, Nothing}
+use Rattle.fields.specs.declared.Kind.the-variants.{PolicySet, Policy, Rule, Section, Conjunction, Match, Logic, Not, Comparison, Weighing, Obligation, Literal, Attribute, Operator, Nothing}
 use Rattle.fields.proofs.First.{by, last-ge, last-of}
 use Rattle.fields.proofs.Spans.{span-pos, category-pos}
-use Rattle.placement.specs.Place.{endOf, covers, parentOf, depthOf, kindNumber, singleOf, elderOf, elderRank, rankOf, rankAt, riseOf, underOk, standsAt, childBroken, topOk, brokenAt, placeOk}
+use Rattle.placement.specs.Place.{endOf, covers, parentOf, depthOf, kindNumber, singleOf, elderOf, elderRank, rankOf, rankAt, riseOf, underOk, standsAt, operandsAt, childBroken, topOk, brokenAt, placeOk}
 use Rattle.placement.specs.Keeps.{AllKeep, Sized, Keeps}
 use Rattle.judge.specs.Sound.{Nested, WholeRow, KeptNests, OneTree, stated, NoCut, DepthIs, AfterAll, Allowed, OkIsPlaced, PlacedIsOk, KeptInOrder}
 use Rattle.placement.proofs.Laws.{depth-under, ends-within, parent-ge, parent-of, kept-at, stands-parts, all-but, rule-zero}
@@ -188,7 +188,11 @@ step-le p c Match h = omega arith
 step-le p c Logic h = single-le p
 step-le p c Not h = single-le p
 step-le p c Comparison h = single-le p
+step-le p c Weighing h = single-le p
 step-le p c Obligation h = omega arith
+step-le p c Literal h = omega arith
+step-le p c Attribute h = omega arith
+step-le p c Operator h = omega arith
 step-le p c Nothing h = omega arith
 
 pub under-is : (k : Kind) (g c : ℕ) → (k ≡ Match → g ≡ c) → underOk k g c ≡ true
@@ -201,22 +205,34 @@ under-is Match g c h = eq-eqb g c (h refl)
 under-is Logic g c h = refl
 under-is Not g c h = refl
 under-is Comparison g c h = refl
+under-is Weighing g c h = refl
 under-is Obligation g c h = refl
+under-is Literal g c h = refl
+under-is Attribute g c h = refl
+under-is Operator g c h = refl
 under-is Nothing g c h = refl
 
--- where all earlier lines keep the place rules, the parent's test says that a record is allowed
-pub stands-allowed : (b : List ℕ) (n i : ℕ) → Sized b n → i < n → AllKeep (placeOk b) i → standsAt b (parentOf b i) i ≡ true → Allowed b i
-stands-allowed b n i s l ok e =
+-- the tests of rule 11: its parent's, and that of its operands
+abbrev pub fitsAt : List ℕ → ℕ → Bool
+fitsAt b i = both (standsAt b (parentOf b i) i) (operandsAt b i)
+
+-- where all earlier lines keep the place rules, they say that a record is allowed
+pub fits-allowed : (b : List ℕ) (n i : ℕ) → Sized b n → i < n → AllKeep (placeOk b) i → fitsAt b i ≡ true → Allowed b i
+fits-allowed b n i s l ok f =
     let p : ℕ = parentOf b i in
-    let v = stands-parts (kindNumber (kindAt b p)) (kindAt b i) (byteOf b i 4) (elderRank b p (elderOf b p i)) (byteOf b (parentOf b p) 4) e in
+    let x = both-parts (standsAt b p i) (operandsAt b i) f in
+    let v = stands-parts (kindNumber (kindAt b p)) (kindAt b i) (byteOf b i 4) (elderRank b p (elderOf b p i)) (byteOf b (parentOf b p) 4) (x .0) in
     record {
       taken = v .0;
-      after = after-allF b n s (suc i) i (omega arith) l ok (after-elder b i e);
+      after = after-allF b n s (suc i) i (omega arith) l ok (after-elder b i (x .0));
       category = λ q. eqb-true (byteOf b (parentOf b p) 4) (byteOf b i 4) (rw q at (v .2));
+      operands = x .1;
     }
 
 pub ok-is-placed : OkIsPlaced
-ok-is-placed b n i s h l ok e = let w = kept-at b i h e in record { within = w .0; allowed = stands-allowed b n i s l ok (w .1); depth = w .2 }
+ok-is-placed b n i s h l ok e =
+    let w = kept-at b i h e in
+    record { within = w .0; allowed = fits-allowed b n i s l ok (simp (w .1, w .3)); depth = w .2 }
 
 -- a record that stands after all earlier children stands after the child before it
 after-one : (b : List ℕ) (n i : ℕ) → Sized b n → 0 < i → i < n → AllKeep (placeOk b) i → fieldOk b i ≡ true → AfterAll b i → AfterElder b i
@@ -230,20 +246,20 @@ after-one b n i s h l ok f w =
     (λ t. rw t (omega (arith, step-le (kindNumber (kindAt b p)) (byteOf b i 4) (kindAt b i) (category-pos b i f))))
     (λ t. let g : q ≡ p → ⊥ = eqb-false q p t in rw t (w q (omega (arith, v .0)) (v .1) (v .2 g)))
 
-pub allowed-stands : (b : List ℕ) (n i : ℕ) → Sized b n → 0 < i → i < n → AllKeep (placeOk b) i → fieldOk b i ≡ true → Allowed b i
-    → standsAt b (parentOf b i) i ≡ true
+pub allowed-fits : (b : List ℕ) (n i : ℕ) → Sized b n → 0 < i → i < n → AllKeep (placeOk b) i → fieldOk b i ≡ true → Allowed b i → fitsAt b i ≡ true
 unfolding rankAt
-allowed-stands b n i s h l ok f w =
+allowed-fits b n i s h l ok f w =
     let p : ℕ = parentOf b i in
     let e : ℕ = elderRank b p (elderOf b p i) in
     let g : ℕ = byteOf b (parentOf b p) 4 in
     let c : ℕ = byteOf b i 4 in
     let x = after-one b n i s h l ok f (w .after) in
-    sym (all-but (kindNumber (kindAt b p)) (kindAt b i) c e g refl (w .taken) refl refl x refl) ∙ under-is (kindAt b i) g c (w .category)
+    let y : standsAt b p i ≡ true = sym (all-but (kindNumber (kindAt b p)) (kindAt b i) c e g refl (w .taken) refl refl x refl) ∙ under-is (kindAt b i) g c (w .category) in
+    simp (y, w .operands)
 
 pub placed-is-ok : PlacedIsOk
 unfolding placeOk brokenAt childBroken
 placed-is-ok b n i s h l ok f w =
     let p : ℕ = parentOf b i in
-    let y = allowed-stands b n i s h l ok f (w .allowed) in
+    let y = allowed-fits b n i s h l ok f (w .allowed) in
     rw (ne-eqb i 0 (λ z. omega arith), rule-zero (endOf b i) (endOf b p) (depthOf b i) _ (w .within) y (w .depth))

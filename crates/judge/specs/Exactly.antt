@@ -22,7 +22,8 @@ pub record KeptTo (b : List ℕ) (n i : ℕ) : Type 0 where
   pub inside : i < n
   pub before : AllKeep (placeOk b) i
 
--- bytes that break a rule, with the refusal for it; of the place rules that a line breaks, the lowest number: 11 only where 10 is kept, 12 only where both are
+-- bytes that break a rule, with the refusal for it; of the place rules that a line breaks, the lowest number: 11, which is also for wrong operands, only
+-- where 10 is kept, 12 only where both are
 pub data Breaks (b : List ℕ) (r : Refusal) : Type 0 where
   empty : r ≡ noRecord book → length b ≡ 0 → Breaks b r
   cut : r ≡ cutShort book → (length b % size ≡ 0 → ⊥) → Breaks b r

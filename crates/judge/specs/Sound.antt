@@ -7,7 +7,7 @@ use Rattle.record.specs.Bytes.{byteOf, spanOf}
 use Rattle.record.specs.Forest.{Forest, none, node, growF, forest}
 use Rattle.fields.specs.Fields.{kindAt, fieldOk}
 use Rattle.fields.specs.declared.Kind.the-variants.{Match}
-use Rattle.placement.specs.Place.{mostDepth, endOf, parentOf, depthOf, kindNumber, takesOf, rankAt, riseOf, placeOk}
+use Rattle.placement.specs.Place.{mostDepth, endOf, parentOf, depthOf, kindNumber, takesOf, rankAt, riseOf, operandsAt, placeOk}
 use Rattle.placement.specs.Keeps.{AllKeep, Sized, Keeps}
 
 -- spans that nest: each is at least 1, ends within the book, and covers each record that it covers to its end; the first covers all
@@ -48,11 +48,13 @@ AfterAll b i =
     (j : ℕ) → 0 < j → j < i → parentOf b j ≡ parentOf b i
     → rankAt b j + riseOf (kindNumber (kindAt b (parentOf b i))) (kindAt b i) ≤ rankAt b i
 
--- record i is allowed at its place: its parent takes such a record, it stands after the earlier children, and a match has the category of its section
+-- record i is allowed at its place: its parent takes such a record, it stands after the earlier children, a match has the category of its section, and
+-- what has operands has those that it wants: an operator two values of its type, a comparison of values two of one type, which it may compare
 pub record Allowed (b : List ℕ) (i : ℕ) : Type 0 where
   pub taken : takesOf (kindNumber (kindAt b (parentOf b i))) (kindAt b i) ≡ true
   pub after : AfterAll b i
   pub category : kindAt b i ≡ Match → byteOf b (parentOf b (parentOf b i)) 4 ≡ byteOf b i 4
+  pub operands : operandsAt b i ≡ true
 
 -- a record below line 1 that stands where it may: it ends where its parent does or before, is allowed at its place, and is not too deep
 pub record Placed (b : List ℕ) (i : ℕ) : Type 0 where

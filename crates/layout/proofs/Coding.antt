@@ -11,6 +11,8 @@ use Rattle.record.proofs.Choose.{both-left, both-right}
 use Rattle.value.specs.Value.{functionOf}
 use Rattle.value.specs.declared.Function.{Function}
 use Rattle.value.specs.declared.Function.the-variants.{Equal, Greater, GreaterOrEqual, Less, LessOrEqual}
+use Rattle.sums.specs.declared.Operator.{Operator}
+use Rattle.sums.specs.declared.Operator.the-variants.{Add, Subtract, Multiply, Divide, Remainder, DoubleAdd}
 use Rattle.meaning.specs.declared.Truth.{Truth}
 use Rattle.meaning.specs.declared.Truth.the-variants.{True, False, Unknown}
 use Rattle.meaning.specs.declared.Effect.{Effect}
@@ -27,7 +29,7 @@ use Rattle.layout.specs.declared.Op.the-variants.{All, Any, Not}
 use Rattle.layout.specs.declared.Level.{Level}
 use Rattle.layout.specs.declared.Frame.{Frame}
 use Rattle.layout.specs.declared.Head.{Head}
-use Rattle.layout.specs.Layout.{bitOf, truthCode, truthBy, decisionCode, decisionBy, effectCode, effectBy, opCode, opBy, algorithmCode, algorithmBy, functionCode, rankBy, accCode, accBy, levelOf, levelWord, frameOf, frameWord, unpackOf, packOf, allowed}
+use Rattle.layout.specs.Layout.{bitOf, truthCode, truthBy, decisionCode, decisionBy, effectCode, effectBy, opCode, opBy, algorithmCode, algorithmBy, functionCode, operatorCode, operatorBy, rankBy, accCode, accBy, levelOf, levelWord, frameOf, frameWord, unpackOf, packOf, allowed}
 use Rattle.layout.specs.Ranges.{Held, Ranged}
 use Rattle.layout.specs.Room.{roomP}
 
@@ -107,6 +109,15 @@ function-small Greater = omega arith
 function-small GreaterOrEqual = omega arith
 function-small Less = omega arith
 function-small LessOrEqual = omega arith
+
+pub operator-back : (o : Operator) → operatorBy (operatorCode o) ≡ o
+unfolding operatorBy
+operator-back Add = refl
+operator-back Subtract = refl
+operator-back Multiply = refl
+operator-back Divide = refl
+operator-back Remainder = refl
+operator-back DoubleAdd = refl
 
 pub acc-back : (a : Acc) → accBy (accCode a) ≡ a
 unfolding accBy rankBy decisionBy

@@ -5,16 +5,23 @@ use mathlib.Core.Bool.{Bool, true, false}
 use mathlib.Core.List.{List, _++_}
 use lib.ListN.{length, getD, drop}
 use lib.Seq.{getD-drop}
-use native.Mathlib.Nat.{add-zero}
+use native.Mathlib.Nat.{add-zero, mod-eq-of-lt}
 use native.Mathlib.Omega.{arith}
 use borrow.Author.Tests.{le-leb, lt-ltb}
 use Rattle.record.proofs.Choose.{no-false}
 use Rattle.meaning.specs.declared.Test.{Test}
 use Rattle.meaning.specs.declared.Effect.{Effect}
-use Rattle.layout.specs.Entry.{Entry, begin, match, further, opens, compare, close, rule, enter, applies, conclude, oblige, leave, finish, extra, reach, isFurther, fits}
-use Rattle.layout.specs.Layout.{bitOf, functionCode, effectCode, effectBy, opCode, algorithmCode, testOf, testWord, matchBy, compareBy, entryBy, entryOf, fetch, wordsOf}
-use Rattle.layout.proofs.Coding.{bit-back, bit-small, effect-back, effect-small, op-back, algorithm-back, algorithm-small, function-back, function-small, remainder, quotient, digit}
+use Rattle.layout.specs.Entry.{Piece, loads, asks, works, tests, Entry, begin, match, further, opens, compare, close, sum, rule, enter, applies, conclude, oblige, leave, finish, extra, reach, isFurther, fits}
+use Rattle.layout.specs.Layout.{bitOf, functionCode, operatorCode, effectCode, effectBy, opCode, algorithmCode, testOf, testWord, matchBy, compareBy, pieceBy, entryBy, entryOf, fetch, pieceWords, wordsOf}
+use Rattle.layout.proofs.Coding.{bit-back, bit-small, effect-back, effect-small, op-back, algorithm-back, algorithm-small, function-back, function-small, operator-back, remainder, quotient, digit}
 use Rattle.layout.specs.Room.{roomP}
+
+-- the key of a piece is a number of four bytes
+abbrev pub HoldsPiece : Piece → Type 0
+HoldsPiece (loads k n) = Unit
+HoldsPiece (asks key) = key < 4294967296
+HoldsPiece (works o) = Unit
+HoldsPiece (tests f k) = Unit
 
 -- an entry's test, number or cut has a property
 abbrev pub Holds : (Test → Type 0) → (ℕ → Type 0) → Entry → Type 0
@@ -24,6 +31,7 @@ Holds T N further = Unit
 Holds T N (opens op) = Unit
 Holds T N (compare t n) = T t
 Holds T N (close n) = Unit
+Holds T N (sum p) = HoldsPiece p
 Holds T N (rule e n) = Unit
 Holds T N (enter al) = Unit
 Holds T N (applies n) = Unit
@@ -46,6 +54,7 @@ fits-held further h g = sym h
 fits-held (opens op) h g = refl
 fits-held (compare t n) h g = refl
 fits-held (close n) h g = refl
+fits-held (sum p) h g = refl
 fits-held (rule e n) h g = refl
 fits-held (enter al) h g = refl
 fits-held (applies n) h g = refl
@@ -56,13 +65,17 @@ fits-held finish h g = refl
 
 -- as many numbers as entries
 pub words-length : (e : Entry) → isFurther e ≡ false → length (wordsOf e) ≡ suc (extra e)
-unfolding wordsOf
+unfolding wordsOf pieceWords
 words-length (begin al c) h = refl
 words-length (match t m c l i j x) h = refl
 words-length further h = no-false (sym h)
 words-length (opens op) h = refl
 words-length (compare t n) h = refl
 words-length (close n) h = refl
+words-length (sum (loads k n)) h = refl
+words-length (sum (asks key)) h = refl
+words-length (sum (works o)) h = refl
+words-length (sum (tests f k)) h = refl
 words-length (rule e n) h = refl
 words-length (enter al) h = refl
 words-length (applies n) h = refl
@@ -131,6 +144,23 @@ by-op : (k n literal ways : ℕ) → k < 16 → entryOf (k + 16 * n) literal way
 unfolding entryOf
 by-op k n literal ways h = rw (remainder 16 (k + 16 * n) k n refl h, quotient 16 (k + 16 * n) k n refl h)
 
+-- a piece: which it is, and what is behind that
+by-piece : (which n literal ways : ℕ) → which < 4 → entryOf (12 + 16 * (which + 4 * n)) literal ways ≡ sum (pieceBy which n literal)
+unfolding entryBy
+by-piece which n literal ways h =
+    by-op 12 (which + 4 * n) literal ways (omega arith) ∙ rw (remainder 4 (which + 4 * n) which n refl h, quotient 4 (which + 4 * n) which n refl h)
+
+piece-back : (p : Piece) (ns : List ℕ) → HoldsPiece p → readAt (pieceWords p ++ ns) ≡ sum p
+unfolding pieceWords pieceBy
+piece-back (loads k n) ns g = let z : 4 * k ≡ 0 + 4 * k = omega arith in rw z (by-piece 0 k n (getD ns 0 0) (omega arith))
+piece-back (asks key) ns g = by-piece 1 key (getD ns 0 0) (getD ns 1 0) (omega arith) ∙ rw (mod-eq-of-lt g)
+piece-back (works o) ns g = by-piece 2 (operatorCode o) (getD ns 0 0) (getD ns 1 0) (omega arith) ∙ rw (operator-back o)
+piece-back (tests f k) ns g =
+    let w : ℕ = functionCode f + 8 * k in
+    let s = function-small f in
+    by-piece 3 w (getD ns 0 0) (getD ns 1 0) (omega arith)
+    ∙ rw (remainder 8 w (functionCode f) k refl (omega arith), quotient 8 w (functionCode f) k refl (omega arith), function-back f)
+
 pub read-back : (e : Entry) (ns : List ℕ) → isFurther e ≡ false → Holds Key Short e → reach e < 8192 → readAt (wordsOf e ++ ns) ≡ e
 unfolding wordsOf entryBy
 read-back (begin al c) ns h g l =
@@ -143,6 +173,7 @@ read-back further ns h g l = no-false (sym h)
 read-back (opens op) ns h g l = by-op 3 (opCode op) (getD ns 0 0) (getD ns 1 0) (omega arith) ∙ ap opens (op-back op)
 read-back (compare t n) ns h g l = by-op 2 _ (t .literal) (getD ns 0 0) (omega arith) ∙ compare-back t g n
 read-back (close n) ns h g l = by-op 4 n (getD ns 0 0) (getD ns 1 0) (omega arith)
+read-back (sum p) ns h g l = piece-back p ns g
 read-back (rule e n) ns h g l = by-op 5 (effectCode e + 2 * n) (getD ns 0 0) (getD ns 1 0) (omega arith) ∙ rw (effect-of, number-of)
 read-back (enter al) ns h g l = by-op 6 (algorithmCode al) (getD ns 0 0) (getD ns 1 0) (omega arith) ∙ ap enter (algorithm-back al)
 read-back (applies n) ns h g l = by-op 7 n (getD ns 0 0) (getD ns 1 0) (omega arith)

@@ -8,6 +8,8 @@ use Rattle.record.specs.Choose.{if, both}
 use Rattle.value.specs.Value.{functionOf}
 use Rattle.value.specs.declared.Function.{Function}
 use Rattle.value.specs.declared.Function.the-variants.{Equal, Greater, GreaterOrEqual, Less, LessOrEqual}
+use Rattle.sums.specs.declared.Operator.{Operator}
+use Rattle.sums.specs.declared.Operator.the-variants.{Add, Subtract, Multiply, Divide, Remainder, DoubleAdd}
 use Rattle.meaning.specs.declared.Test.{Test}
 use Rattle.meaning.specs.declared.Truth.{Truth}
 use Rattle.meaning.specs.declared.Truth.the-variants.{True, False, Unknown}
@@ -26,7 +28,7 @@ use Rattle.layout.specs.declared.Op.the-variants.{All, Any, Not}
 use Rattle.layout.specs.declared.Level.{Level}
 use Rattle.layout.specs.declared.Frame.{Frame}
 use Rattle.layout.specs.declared.Head.{Head}
-use Rattle.layout.specs.Entry.{Entry, begin, match, further, opens, compare, close, rule, enter, applies, conclude, oblige, leave, finish}
+use Rattle.layout.specs.Entry.{Piece, loads, asks, works, tests, Entry, begin, match, further, opens, compare, close, sum, rule, enter, applies, conclude, oblige, leave, finish}
 use Rattle.layout.specs.Room.{roomP}
 
 -- small words by number, and back; a number that no word has is read as the last one
@@ -84,6 +86,18 @@ functionCode Greater = 2
 functionCode GreaterOrEqual = 3
 functionCode Less = 4
 functionCode LessOrEqual = 5
+
+abbrev pub operatorCode : Operator → ℕ
+operatorCode Add = 0
+operatorCode Subtract = 1
+operatorCode Multiply = 2
+operatorCode Divide = 3
+operatorCode Remainder = 4
+operatorCode DoubleAdd = 5
+
+unfoldable pub operatorBy : ℕ → Operator
+operatorBy n =
+    if (eqb n 0) Add (if (eqb n 1) Subtract (if (eqb n 2) Multiply (if (eqb n 3) Divide (if (eqb n 4) Remainder DoubleAdd))))
 
 -- what an algorithm keeps: five ranks; nobody, pending, two; one with its decision
 abbrev pub rankCode : Rank → ℕ
@@ -164,8 +178,8 @@ allowed n =
     (both (leb (unpackOf n .permits) roomP)
     (leb (unpackOf n .cut + unpackOf n .denies) roomP))))
 
--- an entry by its number: 4 bits what it is, then its fields; a match and a comparison have their literal in the next number, a match the ways to
--- the next section and out of the target in the one after
+-- an entry by its number: 4 bits what it is, then its fields; a match, a comparison and a literal have the literal in the next number, a match the
+-- ways to the next section and out of the target in the one after
 unfoldable pub testOf : ℕ → ℕ → ℕ → Test
 testOf n key literal = record { function = functionOf (n % 8); must = eqb (n / 8 % 2) 1; key = key; literal = literal }
 
@@ -176,6 +190,14 @@ matchBy n literal ways =
 
 unfoldable pub compareBy : ℕ → ℕ → Entry
 compareBy n literal = compare (testOf n (n / 16 % 4294967296) literal) (n / 68719476736)
+
+-- a piece of a comparison of two values: 2 bits which; a literal its type, an attribute its key, an operator its number, the comparison its function
+-- and type
+unfoldable pub pieceBy : ℕ → ℕ → ℕ → Piece
+pieceBy which n literal =
+    if (eqb which 0) (loads n literal)
+    (if (eqb which 1) (asks (n % 4294967296))
+    (if (eqb which 2) (works (operatorBy n)) (tests (functionOf (n % 8)) (n / 8))))
 
 unfoldable pub entryBy : ℕ → ℕ → ℕ → ℕ → Entry
 entryBy op n literal ways =
@@ -190,7 +212,8 @@ entryBy op n literal ways =
     (if (eqb op 8) (conclude n)
     (if (eqb op 9) (oblige (effectBy (n % 2)) (n / 2))
     (if (eqb op 10) (leave n)
-    (if (eqb op 11) finish further)))))))))))
+    (if (eqb op 11) finish
+    (if (eqb op 12) (sum (pieceBy (n % 4) (n / 4) literal)) further))))))))))))
 
 unfoldable pub entryOf : ℕ → ℕ → ℕ → Entry
 entryOf w literal ways = entryBy (w % 16) (w / 16) literal ways
@@ -203,6 +226,12 @@ fetch p i = entryOf (getD p i 0) (getD p (i + 1) 0) (getD p (i + 2) 0)
 unfoldable pub testWord : Test → ℕ
 testWord t = functionCode (t .function) + 8 * bitOf (t .must)
 
+unfoldable pub pieceWords : Piece → List ℕ
+pieceWords (loads k n) = (12 + 16 * (4 * k)) ∷ n ∷ []
+pieceWords (asks key) = (12 + 16 * (1 + 4 * key)) ∷ []
+pieceWords (works o) = (12 + 16 * (2 + 4 * operatorCode o)) ∷ []
+pieceWords (tests f k) = (12 + 16 * (3 + 4 * (functionCode f + 8 * k))) ∷ []
+
 unfoldable pub wordsOf : Entry → List ℕ
 wordsOf (begin al c) = 16 * (algorithmCode al + 8 * c) ∷ []
 wordsOf (match t m c s i j x) =
@@ -214,6 +243,7 @@ wordsOf further = []
 wordsOf (opens op) = (3 + 16 * opCode op) ∷ []
 wordsOf (compare t n) = (2 + 16 * (testWord t + 16 * (t .key + 4294967296 * n))) ∷ t .literal ∷ []
 wordsOf (close n) = (4 + 16 * n) ∷ []
+wordsOf (sum p) = pieceWords p
 wordsOf (rule e n) = (5 + 16 * (effectCode e + 2 * n)) ∷ []
 wordsOf (enter al) = (6 + 16 * algorithmCode al) ∷ []
 wordsOf (applies n) = (7 + 16 * n) ∷ []

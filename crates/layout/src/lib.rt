@@ -5,9 +5,10 @@ use meaning::Algorithm;
 use meaning::Decision;
 use meaning::Effect;
 use meaning::Truth;
+use sums::Operator;
 ghost use mathlib.Core.Path.{_≡_};
 ghost use Prim.Native.Nat.{_<_, _≤_};
-ghost use Rattle.layout.specs.Layout.{bitOf, truthCode, truthBy, decisionCode, decisionBy, effectBy, opCode, opBy, algorithmCode, algorithmBy, rankCode, rankBy, accCode, accBy, levelOf, levelWord, frameOf, frameWord, unpackOf, packOf};
+ghost use Rattle.layout.specs.Layout.{bitOf, truthCode, truthBy, decisionCode, decisionBy, effectBy, opCode, opBy, algorithmCode, algorithmBy, operatorBy, rankCode, rankBy, accCode, accBy, levelOf, levelWord, frameOf, frameWord, unpackOf, packOf};
 ghost use Rattle.layout.specs.Ranges.{Held};
 
 // What a condition that is open does with its parts.
@@ -156,6 +157,19 @@ pub fn algorithm_by(n: u64) -> Algorithm
         3 => Algorithm::PoliciesDeny,
         4 => Algorithm::PoliciesPermit,
         _ => Algorithm::OnlyOne,
+    }
+}
+
+pub fn operator_by(n: u64) -> Operator
+    ensures { λ r. ⌜ r ≡ operatorBy n ⌝ }
+{
+    match n {
+        0 => Operator::Add,
+        1 => Operator::Subtract,
+        2 => Operator::Multiply,
+        3 => Operator::Divide,
+        4 => Operator::Remainder,
+        _ => Operator::DoubleAdd,
     }
 }
 

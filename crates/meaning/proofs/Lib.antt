@@ -1,4 +1,6 @@
 pub mod Logic
 pub mod Keys
-pub mod Alike
 pub mod Cases
+pub mod Typed
+pub mod Alike
+pub mod Examples

@@ -4,4 +4,5 @@ pub mod Numbers
 pub mod Meaning
 pub mod Reading
 pub mod Keys
+pub mod Typed
 pub mod Alike

@@ -10,8 +10,11 @@ use Rattle.record.specs.Bytes.{size, byteOf, bigOf}
 use Rattle.record.specs.Forest.{Forest, none, node, forest}
 use Rattle.value.specs.Value.{functionOf}
 use Rattle.value.specs.declared.Value.{Value}
+use Rattle.sums.specs.Sums.{kindOf}
+use Rattle.sums.specs.declared.Operator.{Operator}
+use Rattle.sums.specs.declared.Operator.the-variants.{Add, Subtract, Multiply, Divide, Remainder, DoubleAdd}
 use Rattle.meaning.specs.Numbers.{keyBy, valueUnder}
-use Rattle.meaning.specs.Policy.{Key, Some, last, more, Conjunction, Section, Target, Condition, compares, all, any, not, Conditions, noPart, part, When, always, whenever, Rule, Obligation, OverRules, rulesDeny, rulesPermit, rulesFirst, OverPolicies, policiesDeny, policiesPermit, policiesFirst, policiesOnlyOne, Tree, policy, set, Trees, noTree, tree}
+use Rattle.meaning.specs.Policy.{Key, Some, last, more, Conjunction, Section, Target, Expr, literal, attribute, operate, Condition, compares, weighs, all, any, not, Conditions, noPart, part, When, always, whenever, Rule, Obligation, OverRules, rulesDeny, rulesPermit, rulesFirst, OverPolicies, policiesDeny, policiesPermit, policiesFirst, policiesOnlyOne, Tree, policy, set, Trees, noTree, tree}
 use Rattle.meaning.specs.Meaning.{Bags}
 use Rattle.meaning.specs.declared.Test.{Test}
 use Rattle.meaning.specs.declared.Effect.{Effect}
@@ -69,21 +72,55 @@ abbrev pub notAt : List ℕ → ℕ → Conditions → Condition
 notAt b i noPart = compares (comparisonAt b i)
 notAt b i (part c cs) = not c
 
--- 1 and, 2 or, 3 not, else a comparison
-unfoldable pub conditionAt : List ℕ → ℕ → Conditions → Condition
-conditionAt b i cs =
+-- the first two of the values below a record, or else d
+abbrev pub ofTwo : {A : Type 0} → (Expr → Expr → A) → A → List Expr → A
+ofTwo f d [] = d
+ofTwo f d (x ∷ []) = d
+ofTwo f d (x ∷ y ∷ es) = f x y
+
+-- 3 add, 4 subtract, 5 multiply, 6 divide, 7 remainder, 8 double add
+abbrev pub operatorOf : ℕ → Operator
+operatorOf c = if (eqb c 3) Add (if (eqb c 4) Subtract (if (eqb c 5) Multiply (if (eqb c 6) Divide (if (eqb c 7) Remainder DoubleAdd))))
+
+-- byte 5 is a literal's type, bytes 8-15 its value
+abbrev pub literalAt : List ℕ → ℕ → Expr
+literalAt b i = literal (byteOf b i 5) (bigOf b (i * size + 8) 8)
+
+-- an operator without two operands, which no accepted book has, is read as a literal of its type
+abbrev pub spareAt : List ℕ → ℕ → Expr
+spareAt b i = literal (kindOf (operatorOf (choiceAt b i))) (bigOf b (i * size + 8) 8)
+
+-- a value: 1 a literal, 2 an attribute, else an operator
+unfoldable pub exprAt : List ℕ → ℕ → List Expr → Expr
+exprAt b i es =
+    if (eqb (choiceAt b i) 1) (literalAt b i)
+    (if (eqb (choiceAt b i) 2) (attribute (keyAt b i))
+    (ofTwo (operate (operatorOf (choiceAt b i))) (spareAt b i) es))
+
+unfoldable pub exprsIn : List ℕ → Forest → List Expr
+exprsIn b none = []
+exprsIn b (node i kids rest) = exprAt b i (exprsIn b kids) ∷ exprsIn b rest
+
+-- choice 21-25 compares two values by function 1-5; without two it is read as a comparison
+abbrev pub weighsAt : List ℕ → ℕ → List Expr → Condition
+weighsAt b i es = ofTwo (weighs (functionOf (choiceAt b i - 20))) (compares (comparisonAt b i)) es
+
+-- 1 and, 2 or, 3 not, 21 to 25 a comparison of two values, else a comparison
+unfoldable pub conditionAt : List ℕ → ℕ → Conditions → List Expr → Condition
+conditionAt b i cs es =
     if (eqb (choiceAt b i) 1) (all cs)
     (if (eqb (choiceAt b i) 2) (any cs)
     (if (eqb (choiceAt b i) 3) (notAt b i cs)
-    (compares (comparisonAt b i))))
+    (if (ltb 20 (choiceAt b i)) (weighsAt b i es)
+    (compares (comparisonAt b i)))))
 
 unfoldable pub conditionsIn : List ℕ → Forest → Conditions
 conditionsIn b none = noPart
-conditionsIn b (node i kids rest) = part (conditionAt b i (conditionsIn b kids)) (conditionsIn b rest)
+conditionsIn b (node i kids rest) = part (conditionAt b i (conditionsIn b kids) (exprsIn b kids)) (conditionsIn b rest)
 
 -- the condition at record i, with the records below it
 abbrev pub conditionFrom : List ℕ → ℕ → Forest → Condition
-conditionFrom b i kids = conditionAt b i (conditionsIn b kids)
+conditionFrom b i kids = conditionAt b i (conditionsIn b kids) (exprsIn b kids)
 
 -- the condition among a rule's children
 unfoldable pub whenIn : List ℕ → Forest → When

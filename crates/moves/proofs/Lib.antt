@@ -1,2 +1,4 @@
 pub mod Outcome
 pub mod Placings
+pub mod Levels
+pub mod PieceLaws

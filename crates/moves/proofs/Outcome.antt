@@ -11,8 +11,8 @@ use Rattle.moves.specs.declared.Next.{Next}
 use Rattle.moves.specs.declared.Change.the-variants.{Keep, Swap, Back}
 use Rattle.moves.specs.declared.Placing.the-variants.{Rest}
 use Rattle.moves.specs.declared.Move.{Move}
-use Rattle.moves.specs.Core.{past, sectionDone, conjunctionDone, matchDone, settledBy, told, tell, closed}
-use Rattle.layout.specs.Layout.{levelWord}
+use Rattle.moves.specs.Core.{past, sectionDone, conjunctionDone, matchDone, settledBy, toldTo, told, settles, valueIn, tell, closed}
+use Rattle.layout.specs.Layout.{levelOf, levelWord}
 use Rattle.moves.specs.Moves.{moved, moveOf}
 
 -- targets: the result n, the truths v, u and w that came before
@@ -46,20 +46,22 @@ module _ (n : Next) (v w : Truth) (m c l : Bool) (i j x : ℕ) (o t : Truth) (d 
   match-false e f g = rw e (rw f at g)
 
 -- conditions: the level t that was told, whether that settles it, where to go on, and its number
-module _ (r : Move) (n nest : ℕ) (l : Level) (d : Decision) (t : Level) (s : Bool) (on : Next) (w : ℕ)
-    (settles : s ≡ settledBy (t .op) (t .val)) (goes : on ≡ past s n d) (word : w ≡ levelWord t) where
-  pub tell-open : (v : Truth) → (nest ≡ 0 → ⊥) → t ≡ told l v → r ≡ moved on (Swap w) Keep Rest → r ≡ moveOf (tell v n nest l d)
-  tell-open v e f g = go nest e
+module _ (r : Move) (n nest l : ℕ) (d : Decision) (t : Level) (s : Bool) (on : Next) (w : ℕ)
+    (settled : s ≡ settledBy (t .op) (t .val)) (goes : on ≡ past s n d) (word : w ≡ levelWord t) where
+  pub tell-open : (v : Truth) {k : Level} → (nest ≡ 0 → ⊥) → k ≡ levelOf l → t ≡ toldTo k v → r ≡ moved on (Swap w) Keep Rest → r ≡ moveOf (tell v n nest l d)
+  unfolding told settles
+  tell-open v e x f g = go nest e
     where
       go : (k : ℕ) → (k ≡ 0 → ⊥) → r ≡ moveOf (tell v n k l d)
       go zero z = absurd (z refl)
-      go (suc k) z = rw (g, goes, word, settles, f)
+      go (suc k) z = rw (g, goes, word, settled, f, x)
 
-  pub close-under : (m : Level) → (nest ≡ 0 → ⊥) → (nest ≡ 1 → ⊥) → t ≡ told m (l .val) → r ≡ moved on (Back w) Keep Rest
+  pub close-under : (m : ℕ) {k j : Level} → (nest ≡ 0 → ⊥) → (nest ≡ 1 → ⊥) → k ≡ levelOf l → j ≡ levelOf m → t ≡ toldTo j (k .val) → r ≡ moved on (Back w) Keep Rest
       → r ≡ moveOf (closed n nest l m d)
-  close-under m e f g i = go nest e f
+  unfolding told settles valueIn
+  close-under m e f x y g i = go nest e f
     where
       go : (k : ℕ) → (k ≡ 0 → ⊥) → (k ≡ 1 → ⊥) → r ≡ moveOf (closed n k l m d)
       go zero z y = absurd (z refl)
       go (suc zero) z y = absurd (y refl)
-      go (suc (suc k)) z y = rw (i, goes, word, settles, g)
+      go (suc (suc k)) z q = rw (i, goes, word, settled, g, x, y)

@@ -16,10 +16,9 @@ use Rattle.algorithm.specs.declared.Acc.{Acc}
 use Rattle.algorithm.specs.declared.Acc.the-variants.{Ranked, Nobody, Pending, Two, One}
 use Rattle.layout.specs.declared.Head.{Head}
 use Rattle.layout.specs.declared.Frame.{Frame}
-use Rattle.layout.specs.declared.Level.{Level}
 use Rattle.moves.specs.declared.Placing.{Placing}
 use Rattle.moves.specs.declared.Placing.the-variants.{Rest, AddPermit, AddDeny, FallPermit, FallDeny, FallBoth, Cut, Down}
-use Rattle.layout.specs.Entry.{Entry, begin, match, further, opens, compare, close, rule, enter, applies, conclude, oblige, leave, finish}
+use Rattle.layout.specs.Entry.{loads, asks, works, tests, Entry, begin, match, further, opens, compare, close, sum, rule, enter, applies, conclude, oblige, leave, finish}
 use Rattle.moves.specs.Core.{Out, tell, closed, concluded, noted, pushed, atOnce, finished, core}
 
 -- a property of an entry, of whether the run is over with it, and of what becomes of the obligations
@@ -35,7 +34,7 @@ module _ (P : Entry → Bool → Placing → Type 0) (h : Head) (w : ByEntry P h
   abbrev Has : Entry → Out → Type 0
   Has e x = P e (x .over) (x .placing)
 
-  pub placing-by : (e : Entry) (l m : Level) (f b : Frame) → Has e (core g h e l m f b)
+  pub placing-by : (e : Entry) (l m : ℕ) (f b : Frame) → Has e (core g h e l m f b)
   unfolding core
   placing-by (begin al c) l m f b = w .cuts al c
   placing-by (match t k c s i j x) l m f b = w .rests (match t k c s i j x)
@@ -52,6 +51,10 @@ module _ (P : Entry → Bool → Placing → Type 0) (h : Head) (w : ByEntry P h
       go zero = w .rests (close n)
       go (suc zero) = w .rests (close n)
       go (suc (suc k)) = w .rests (close n)
+  placing-by (sum (loads k n)) l m f b = w .rests (sum (loads k n))
+  placing-by (sum (asks key)) l m f b = w .rests (sum (asks key))
+  placing-by (sum (works o)) l m f b = w .rests (sum (works o))
+  placing-by (sum (tests y k)) l m f b = w .rests (sum (tests y k))
   placing-by (rule e n) l m f b = w .rests (rule e n)
   placing-by (enter al) l m f b = w .rests (enter al)
   placing-by (applies n) l m f b = go (b .acc)

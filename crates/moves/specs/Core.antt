@@ -3,8 +3,15 @@ use Prim.Native.Nat.{ℕ, zero, suc, _+_, _-_, min}
 use mathlib.Core.Bool.{Bool, true, false}
 use lib.Dec.{leb, ltb}
 use Rattle.record.specs.Choose.{if, both}
+use Rattle.value.specs.Value.{valueOf, testOf}
+use Rattle.value.specs.declared.Function.{Function}
+use Rattle.sums.specs.Sums.{bytesOf, kindOf, resultOf}
+use Rattle.sums.specs.declared.Operator.{Operator}
+use Rattle.sums.specs.declared.Worth.{Worth}
+use Rattle.sums.specs.declared.Worth.the-variants.{Is, Lost}
 use Rattle.meaning.specs.Logic.{andOf, orOf, notOf, targetAnd}
-use Rattle.meaning.specs.Meaning.{Bags, matchOf, comparisonOf, under, decisionOf, is}
+use Rattle.meaning.specs.Numbers.{keyBy}
+use Rattle.meaning.specs.Meaning.{Bags, truthOf, matchOf, comparisonOf, theOnly, under, decisionOf, is}
 use Rattle.meaning.specs.declared.Truth.{Truth}
 use Rattle.meaning.specs.declared.Truth.the-variants.{True, False, Unknown}
 use Rattle.meaning.specs.declared.Effect.{Effect}
@@ -22,7 +29,8 @@ use Rattle.layout.specs.declared.Head.{Head}
 use Rattle.moves.specs.declared.Next.{Next}
 use Rattle.moves.specs.declared.Placing.{Placing}
 use Rattle.moves.specs.declared.Placing.the-variants.{Rest, AddPermit, AddDeny, FallPermit, FallDeny, FallBoth, Cut, Down}
-use Rattle.layout.specs.Entry.{Entry, begin, match, further, opens, compare, close, rule, enter, applies, conclude, oblige, leave, finish}
+use Rattle.layout.specs.Layout.{levelOf, levelWord}
+use Rattle.layout.specs.Entry.{Piece, loads, asks, works, tests, Entry, begin, match, further, opens, compare, close, sum, rule, enter, applies, conclude, oblige, leave, finish}
 
 -- what becomes of a stack: at most one of its two on top is written
 pub data Changing (A : Type 0) : Type 0 where
@@ -32,14 +40,14 @@ pub data Changing (A : Type 0) : Type 0 where
 pub record Out : Type 0 where
   pub next : Next
   pub over : Bool
-  pub levels : Changing Level
+  pub levels : Changing ℕ
   pub frames : Changing Frame
   pub placing : Placing
 
 abbrev pub next : ℕ → Decision → Truth → Truth → Truth → Next
 next n r a o t = record { jump = n; reg = r; ands = a; ors = o; sections = t }
 
-abbrev pub out : Next → Changing Level → Changing Frame → Placing → Out
+abbrev pub out : Next → Changing ℕ → Changing Frame → Placing → Out
 out n ls fs z = record { next = n; over = false; levels = ls; frames = fs; placing = z }
 
 -- the register and the truths as they are between targets and conditions, and how far to go on: over n entries if b
@@ -96,23 +104,78 @@ settledBy Any False = false
 settledBy Any Unknown = false
 settledBy Not a = false
 
-abbrev pub told : Level → Truth → Level
-told l v = record { op = l .op; val = foldOf (l .op) (l .val) v }
+-- a level is a number, taken apart where a condition needs it
+unfoldable pub level : Op → Truth → ℕ
+level o v = levelWord (record { op = o; val = v })
+
+abbrev pub toldTo : Level → Truth → Level
+toldTo l v = record { op = l .op; val = foldOf (l .op) (l .val) v }
+
+-- a part of this condition has the value v: the level then, and whether no further part matters
+unfoldable pub told : ℕ → Truth → ℕ
+told l v = levelWord (toldTo (levelOf l) v)
+
+unfoldable pub settles : ℕ → Truth → Bool
+settles l v = settledBy (toldTo (levelOf l) v .op) (toldTo (levelOf l) v .val)
+
+unfoldable pub valueIn : ℕ → Truth
+valueIn l = levelOf l .val
 
 -- in the register Permit stands for True, NotApplicable for False
 abbrev pub through : Truth → Decision
 through t = under t Permit
 
 -- a part has the value v: the level is told, or, where no condition is open, the register holds it
-abbrev pub tell : Truth → ℕ → ℕ → Level → Decision → Out
+abbrev pub tell : Truth → ℕ → ℕ → ℕ → Decision → Out
 tell v n zero l r = out (clear 0 (through v)) keep keep Rest
-tell v n (suc k) l r = out (past (settledBy (l .op) (told l v .val)) n r) (swap (told l v)) keep Rest
+tell v n (suc k) l r = out (past (settles l v) n r) (swap (told l v)) keep Rest
 
 -- the condition on top, of k that are open, is closed: it tells its value to the one below
-abbrev pub closed : ℕ → ℕ → Level → Level → Decision → Out
+abbrev pub closed : ℕ → ℕ → ℕ → ℕ → Decision → Out
 closed n zero l m r = out (clear 0 r) keep keep Rest
-closed n (suc zero) l m r = out (clear 0 (through (l .val))) (back m) keep Rest
-closed n (suc (suc k)) l m r = out (past (settledBy (m .op) (told m (l .val) .val)) n r) (back (told m (l .val))) keep Rest
+closed n (suc zero) l m r = out (clear 0 (through (valueIn l))) (back m) keep Rest
+closed n (suc (suc k)) l m r = out (past (settles m (valueIn l)) n r) (back (told m (valueIn l))) keep Rest
+
+-- values of a comparison stand on the levels as their eight bytes; a value that is lost stands as 0, and the first number's `ands`, idle inside
+-- conditions, keeps Unknown from then on to the comparison
+abbrev pub wordOf : Worth → ℕ
+wordOf (Is v) = bytesOf v
+wordOf Lost = 0
+
+abbrev pub markOf : Worth → Truth
+markOf (Is v) = True
+markOf Lost = Unknown
+
+abbrev pub since : Truth → Worth → Worth
+since True w = w
+since False w = w
+since Unknown w = Lost
+
+-- an operator on two words; a comparison of two words
+abbrev pub worked : Operator → ℕ → ℕ → Worth
+worked o x y = resultOf o (valueOf (kindOf o) x) (valueOf (kindOf o) y)
+
+abbrev pub tested : Truth → Function → ℕ → ℕ → ℕ → Truth
+tested True f k x y = truthOf (testOf f (valueOf k x) (valueOf k y))
+tested False f k x y = truthOf (testOf f (valueOf k x) (valueOf k y))
+tested Unknown f k x y = Unknown
+
+abbrev pub carried : Head → Truth → Changing ℕ → Out
+carried h mark ls = out (next 0 (h .reg) mark (h .ors) (h .sections)) ls keep Rest
+
+abbrev pub pushes : Head → Worth → Out
+pushes h w = carried h (markOf w) (push (wordOf w))
+
+abbrev pub leaves : Head → Worth → Out
+leaves h w = carried h (markOf w) (back (wordOf w))
+
+-- a piece, by the levels on top and below: a literal or attribute is put on top; an operator takes the one on top away and replaces the one below; so
+-- does the comparison, by a level of a condition that has its value, for `close` to tell
+abbrev pub pieced : Bags → Head → Piece → ℕ → ℕ → Out
+pieced g h (loads k n) l m = pushes h (since (h .ands) (Is (valueOf k n)))
+pieced g h (asks key) l m = pushes h (since (h .ands) (theOnly (g (keyBy key))))
+pieced g h (works o) l m = leaves h (since (h .ands) (worked o m l))
+pieced g h (tests f k) l m = carried h True (back (level All (tested (h .ands) f k m l)))
 
 -- rules, policies and sets
 abbrev pub ruled : Effect → Decision → Decision
@@ -158,14 +221,15 @@ finished true h = ending h (leb (h .denies) (h .permits + atOnce)) (Down (min at
 finished false h = ending h true Rest
 
 -- the core of a step, by the first number, the entry, the levels on top and below, the frames on top and below
-unfoldable pub core : Bags → Head → Entry → Level → Level → Frame → Frame → Out
+unfoldable pub core : Bags → Head → Entry → ℕ → ℕ → Frame → Frame → Out
 core g h (begin al c) l m f b = out (clear 0 Permit) keep (push (record { alg = al; acc = start al; permits = 0; denies = 0 })) (Cut c)
 core g h (match t k c s i j x) l m f b =
     out (matchDone (andOf (h .ands) (matchOf g t)) k c s i j x (h .ors) (h .sections) (h .reg)) keep keep Rest
 core g h further l m f b = out (clear 0 (h .reg)) keep keep Rest
-core g h (opens op) l m f b = out (next 0 (h .reg) (h .ands) (h .ors) (h .sections)) (push (record { op = op; val = startOf op })) keep Rest
+core g h (opens op) l m f b = out (next 0 (h .reg) (h .ands) (h .ors) (h .sections)) (push (level op (startOf op))) keep Rest
 core g h (compare t n) l m f b = tell (comparisonOf g t) n (h .nest) l (h .reg)
 core g h (close n) l m f b = closed n (h .nest) l m (h .reg)
+core g h (sum p) l m f b = pieced g h p l m
 core g h (rule e n) l m f b =
     let a = absorb (f .alg) (f .acc) e (ruled e (h .reg)) in
     out (past (settled (f .alg) a) n Permit) keep (swap (put f a)) Rest

@@ -1,2 +1,3 @@
 pub mod Core
 pub mod Moves
+pub mod Pieces

@@ -6,7 +6,7 @@ use Rattle.moves.specs.declared.Move.{Move}
 use Rattle.moves.specs.declared.Next.{Next}
 use Rattle.moves.specs.declared.Placing.{Placing}
 use Rattle.moves.specs.Core.{Out, Changing, keep, push, swap, below, back}
-use Rattle.layout.specs.Layout.{levelWord, frameWord}
+use Rattle.layout.specs.Layout.{frameWord}
 use Rattle.moves.specs.declared.Change.the-variants.{Keep, Push, Swap, Under, Back}
 
 -- a change of a stack in numbers, as the code passes it on
@@ -17,12 +17,12 @@ changeOf f (swap x) = Swap (f x)
 changeOf f (below x) = Under (f x)
 changeOf f (back x) = Back (f x)
 
--- the outcome of the core, in numbers
+-- the outcome of the core, in numbers; levels are numbers as they are
 abbrev pub moveOf : Out → Move
 moveOf x = record {
   next = x .next;
   over = x .over;
-  levels = changeOf levelWord (x .levels);
+  levels = changeOf (λ (n : ℕ). n) (x .levels);
   frames = changeOf frameWord (x .frames);
   placing = x .placing;
 }

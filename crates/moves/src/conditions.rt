@@ -7,11 +7,12 @@ use crate::moving;
 use crate::past_if;
 use layout::Level;
 use layout::Op;
+use layout::level_of;
 use layout::level_word;
 use meaning::Decision;
 use meaning::Truth;
 ghost use mathlib.Core.Path.{_≡_};
-ghost use Rattle.moves.specs.Core.{startOf, foldOf, settledBy, told, through, tell, closed};
+ghost use Rattle.moves.specs.Core.{startOf, foldOf, settledBy, toldTo, through, tell, closed};
 ghost use Rattle.moves.specs.Moves.{moveOf};
 
 pub fn start_of(op: Op) -> Truth
@@ -53,7 +54,7 @@ fn settled_by(op: Op, t: Truth) -> bool
 }
 
 fn told_to(l: Level, v: Truth) -> Level
-    ensures { λ r. ⌜ r ≡ told l v ⌝ }
+    ensures { λ r. ⌜ r ≡ toldTo l v ⌝ }
 {
     let op = l.op;
     let val = l.val;
@@ -69,37 +70,33 @@ fn in_register(t: Truth) -> Decision
     meaning::under(t, Decision::Permit)
 }
 
-pub fn tell_level(v: Truth, n: u64, nest: u64, l: Level, d: Decision) -> Move
+pub fn tell_level(v: Truth, n: u64, nest: u64, l: u64, d: Decision) -> Move
     ensures { λ r. ⌜ r ≡ moveOf (tell v n nest l d) ⌝ }
 {
     if nest == 0 {
         let first = cleared(0, in_register(v));
         return moving(first, Change::Keep, Change::Keep, Placing::Rest);
     }
-    let t = told_to(l, v);
+    let t = told_to(level_of(l), v);
     let op = t.op;
     let val = t.val;
     let on = past_if(settled_by(op, val), n, d);
     moving(on, Change::Swap(level_word(t)), Change::Keep, Placing::Rest)
 }
 
-pub fn close_level(n: u64, nest: u64, l: Level, m: Level, d: Decision) -> Move
+pub fn close_level(n: u64, nest: u64, l: u64, m: u64, d: Decision) -> Move
     ensures { λ r. ⌜ r ≡ moveOf (closed n nest l m d) ⌝ }
 {
     if nest == 0 {
         return moving(cleared(0, d), Change::Keep, Change::Keep, Placing::Rest);
     }
-    let v = l.val;
+    let top = level_of(l);
+    let v = top.val;
     if nest == 1 {
         let first = cleared(0, in_register(v));
-        return moving(
-            first,
-            Change::Back(level_word(m)),
-            Change::Keep,
-            Placing::Rest,
-        );
+        return moving(first, Change::Back(m), Change::Keep, Placing::Rest);
     }
-    let t = told_to(m, v);
+    let t = told_to(level_of(m), v);
     let op = t.op;
     let val = t.val;
     let on = past_if(settled_by(op, val), n, d);

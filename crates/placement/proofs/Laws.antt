@@ -17,7 +17,7 @@ use Rattle.fields.specs.Fields.{kindAt, fieldOk}
 use Rattle.fields.specs.declared.Kind.{Kind}
 use Rattle.fields.proofs.First.{by, last-is, last-ge, last-of, count-skip, count-one, count-same, first-none, first-here, first-next, first-le, first-past, first-in, first-all}
 use Rattle.fields.proofs.Spans.{span-pos}
-use Rattle.placement.specs.Place.{mostDepth, endOf, covers, parentOf, elderOf, depthOf, kindNumber, takesOf, riseOf, underOk, rankOf, rankAt, elderRank, standsOk, standsAt, childRule, childBroken, topOk, brokenAt, placeOk, ParentIs}
+use Rattle.placement.specs.Place.{mostDepth, endOf, covers, parentOf, elderOf, depthOf, kindNumber, takesOf, riseOf, underOk, rankOf, rankAt, elderRank, standsOk, standsAt, operandsAt, childRule, childBroken, topOk, brokenAt, placeOk, ParentIs}
 use Rattle.placement.specs.Walk.{Walk, Finds}
 
 pub span-end : (b : List ℕ) (i s : ℕ) → s ≡ spanOf b i → endOf b i ≡ i + s
@@ -59,6 +59,11 @@ depth-under b p i h c g o =
     (λ t. le-ltb i (endOf b j) (omega (arith, ltb-false p (endOf b j) t)) ∙ sym t)) in
     omega arith
 
+-- of a child that runs past its parent's end, nothing else is asked
+rule-past : (end top d : ℕ) {u v : Bool} → (end ≤ top → u ≡ v) → childRule end top d u ≡ childRule end top d v
+unfolding childRule
+rule-past end top d h = by (leb end top) (λ t. rw (h (leb-true end top t))) (λ t. rw t)
+
 module _ (b : List ℕ) {p i e d pn gc pc er : ℕ} (w : Walk b p i e d pn gc pc er) (l : i < e) where
   parent-is : parentOf b i ≡ p
   parent-is = parent-is-innermost b p i (w .after) (omega (arith, w .ends)) (w .inner)
@@ -83,11 +88,12 @@ module _ (b : List ℕ) {p i e d pn gc pc er : ℕ} (w : Walk b p i e d pn gc pc
       rw (ne-eqb j p (λ x. omega arith)) (ne-eqb (parentOf b j) p (λ x. omega arith)))
 
   -- what the walk tests is the record's own rule
-  pub rule-is : {k : Kind} {c end r : ℕ} {t : Bool} → k ≡ kindAt b i → c ≡ byteOf b i 4 → end ≡ endOf b i
-      → t ≡ standsOk pn k c er gc → r ≡ childRule end e (d + 1) t → r ≡ brokenAt b i
+  pub rule-is : {k : Kind} {c end r : ℕ} {t u : Bool} → k ≡ kindAt b i → c ≡ byteOf b i 4 → end ≡ endOf b i
+      → t ≡ standsOk pn k c er gc → (end ≤ e → u ≡ both t (operandsAt b i)) → r ≡ childRule end e (d + 1) u → r ≡ brokenAt b i
   unfolding brokenAt childBroken
-  rule-is ek ec ee et eu =
-      rw (ne-eqb i 0 (λ x. omega (arith, w .after)), parent-is, elder-is, depth-is, ← w .ends, ← w .number, ← w .grand, ← w .rank, ← ek, ← ec, ← ee, ← et) eu
+  rule-is {k} {c} {end} ek ec ee et eu eb =
+      rw (ne-eqb i 0 (λ x. omega (arith, w .after)), parent-is, elder-is, depth-is, ← w .ends, ← w .number, ← w .grand, ← w .rank, ← ek, ← ec, ← ee, ← et)
+      (eb ∙ rule-past end e (d + 1) eu)
 
 -- whether a child may stand there, a law for each return
 module _ (p : ℕ) (k : Kind) (c e g : ℕ) {t : Bool} (et : t ≡ takesOf p k) where
@@ -133,10 +139,14 @@ pub kept-at : (b : List ℕ) (j : ℕ) → 0 < j → placeOk b j ≡ true
     → (endOf b j ≤ endOf b (parentOf b j))
     × (standsAt b (parentOf b j) j ≡ true)
     × (depthOf b j ≤ mostDepth)
+    × (operandsAt b j ≡ true)
 unfolding placeOk brokenAt childBroken
 kept-at b j h e =
+    let s : Bool = standsAt b (parentOf b j) j in
     let t : childBroken b (parentOf b j) j ≡ 0 = rw (ne-eqb j 0 (λ x. omega arith)) at (eqb-true (brokenAt b j) 0 e) in
-    rule-none (endOf b j) (endOf b (parentOf b j)) (depthOf b j) _ t
+    let w = rule-none (endOf b j) (endOf b (parentOf b j)) (depthOf b j) (both s (operandsAt b j)) t in
+    let v = both-parts s (operandsAt b j) (w .1) in
+    (w .0, v .0, w .2, v .1)
 
 -- a record that keeps the rules ends within its parent
 pub ends-within : (b : List ℕ) (j : ℕ) → 0 < j → placeOk b j ≡ true → endOf b j ≤ endOf b (parentOf b j)
@@ -169,20 +179,24 @@ pub record Passed (b : List ℕ) (p i e d pn gc pc er : ℕ) (k : Kind) (c end :
   pub ends : end ≡ endOf b i
   pub ok : placeOk b i ≡ true
 
--- the test of a child
+-- the test of a child, and that there is something to look into
 module _ (b : List ℕ) {p i e d pn gc pc er : ℕ} (w : Walk b p i e d pn gc pc er) (l : i < e) {k : Kind} {c s : ℕ} (ek : k ≡ kindAt b i)
-    (ec : c ≡ byteOf b i 4) (es : s ≡ spanOf b i) {t : Bool} (et : t ≡ standsOk pn k c er gc) {u : ℕ} (eu : u ≡ childRule (i + s) e (d + 1) t) where
-  pub stop-here : (u ≡ 0 → ⊥) → Finds b i (e - i) i u
-  unfolding placeOk
-  stop-here n =
-      let x = rule-is b w l ek ec (sym (span-end b i s es)) et eu in
-      record { place = sym (first-here (placeOk b) i (e - i) (omega arith) (ne-eqb (brokenAt b i) 0 (λ y. n (x ∙ y)))); which = λ z. x; none = λ z. absurd (omega arith) }
+    (ec : c ≡ byteOf b i 4) (es : s ≡ spanOf b i) where
+  pub ends-after : (i < i + s) × (i + s ≡ endOf b i)
+  ends-after = (omega (arith, w .spans i l), sym (span-end b i s es))
 
-  pub passed : u ≡ 0 → Passed b p i e d pn gc pc er k c (i + s)
-  unfolding placeOk
-  passed z =
-      let x : i + s ≡ endOf b i = sym (span-end b i s es) in
-      record { walk = w; inside = l; kind = ek; category = ec; ends = x; ok = eq-eqb (brokenAt b i) 0 (sym (rule-is b w l ek ec x et eu) ∙ z) }
+  module _ {t u : Bool} {r : ℕ} (et : t ≡ standsOk pn k c er gc) (eu : i + s ≤ e → u ≡ both t (operandsAt b i)) (eb : r ≡ childRule (i + s) e (d + 1) u) where
+    its-rule : r ≡ brokenAt b i
+    its-rule = rule-is b w l ek ec (ends-after .1) et eu eb
+
+    pub stop-here : (r ≡ 0 → ⊥) → Finds b i (e - i) i r
+    unfolding placeOk
+    stop-here n =
+        record { place = sym (first-here (placeOk b) i (e - i) (omega arith) (ne-eqb (brokenAt b i) 0 (λ y. n (its-rule ∙ y)))); which = λ z. its-rule; none = λ z. absurd (omega arith) }
+
+    pub passed : r ≡ 0 → Passed b p i e d pn gc pc er k c (i + s)
+    unfolding placeOk
+    passed z = record { walk = w; inside = l; kind = ek; category = ec; ends = ends-after .1; ok = eq-eqb (brokenAt b i) 0 (sym its-rule ∙ z) }
 
 -- from a child to its children, and to the child behind it
 module _ (b : List ℕ) {p i e d pn gc pc er : ℕ} {k : Kind} {c end : ℕ} (h : Passed b p i e d pn gc pc er k c end) where

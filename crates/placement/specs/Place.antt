@@ -1,6 +1,6 @@
--- The place rules, record by record, by the numbers of document 02, 1: 9 of line 1, 10 of the parent's end, 11 of what the parent allows at that place and of
--- the category of a section or match, 12 of the depth. Assumes nothing.
-use Prim.Native.Nat.{ℕ, _+_, _/_, _≤_, _<_}
+-- The place rules, record by record, by the numbers of document 02, 1: 9 of line 1, 10 of the parent's end, 11 of what the parent allows at that place, of the
+-- category of a section or match and of the operands of document 02, 3, 12 of the depth. Assumes nothing.
+use Prim.Native.Nat.{ℕ, _+_, _/_, _%_, _≤_, _<_}
 use mathlib.Core.Path.{_≡_}
 use mathlib.Core.Bool.{Bool, true, false}
 use mathlib.Core.List.{List}
@@ -11,7 +11,7 @@ use Rattle.record.specs.Bytes.{size, byteOf, spanOf}
 use Rattle.fields.specs.First.{lastBelow, countBelow}
 use Rattle.fields.specs.Fields.{kindAt}
 use Rattle.fields.specs.declared.Kind.{Kind}
-use Rattle.fields.specs.declared.Kind.the-variants.{PolicySet, Policy, Rule, Section, Conjunction, Match, Logic, Not, Comparison, Obligation, Nothing}
+use Rattle.fields.specs.declared.Kind.the-variants.{PolicySet, Policy, Rule, Section, Conjunction, Match, Logic, Not, Comparison, Weighing, Obligation, Literal, Attribute, Operator, Nothing}
 
 -- nesting depth is at most this, line 1 being 1
 abbrev pub mostDepth : ℕ
@@ -37,7 +37,8 @@ elderOf b p i = lastBelow (λ (j : ℕ). either (eqb j p) (eqb (parentOf b j) p)
 unfoldable pub depthOf : List ℕ → ℕ → ℕ
 depthOf b i = countBelow (covers b i) i + 1
 
--- a number for each kind: document 01's, with 71 for and and or, 72 for not, 73 for a comparison
+-- a number for each kind: the papers', with 71 for and and or, 72 for not, 73 for a comparison, 74 for one of two values, and 101 to 103 for a literal, an
+-- attribute and an operator
 abbrev pub kindNumber : Kind → ℕ
 kindNumber PolicySet = 1
 kindNumber Policy = 2
@@ -48,7 +49,11 @@ kindNumber Match = 6
 kindNumber Logic = 71
 kindNumber Not = 72
 kindNumber Comparison = 73
+kindNumber Weighing = 74
 kindNumber Obligation = 8
+kindNumber Literal = 101
+kindNumber Attribute = 102
+kindNumber Operator = 103
 kindNumber Nothing = 0
 
 -- the parents that take a condition: rule, and, or, not; and those that take one only: rule and not
@@ -57,6 +62,10 @@ holdsConditions p = either (eqb p 3) (either (eqb p 71) (eqb p 72))
 
 unfoldable pub singleOf : ℕ → ℕ
 singleOf p = if (either (eqb p 3) (eqb p 72)) 1 0
+
+-- the parents that take a value: a comparison of two values, and an operator
+unfoldable pub holdsValues : ℕ → Bool
+holdsValues p = either (eqb p 74) (eqb p 103)
 
 -- does a parent of number p take such a child?
 abbrev pub takesOf : ℕ → Kind → Bool
@@ -69,7 +78,11 @@ takesOf p Match = eqb p 5
 takesOf p Logic = holdsConditions p
 takesOf p Not = holdsConditions p
 takesOf p Comparison = holdsConditions p
+takesOf p Weighing = holdsConditions p
 takesOf p Obligation = among 1 2 p
+takesOf p Literal = holdsValues p
+takesOf p Attribute = holdsValues p
+takesOf p Operator = holdsValues p
 takesOf p Nothing = false
 
 -- the order of children: sections by their category c (1-4), then all others, then obligations
@@ -83,7 +96,11 @@ rankOf Match c = 5
 rankOf Logic c = 5
 rankOf Not c = 5
 rankOf Comparison c = 5
+rankOf Weighing c = 5
 rankOf Obligation c = 6
+rankOf Literal c = 5
+rankOf Attribute c = 5
+rankOf Operator c = 5
 rankOf Nothing c = 5
 
 unfoldable pub rankAt : List ℕ → ℕ → ℕ
@@ -104,7 +121,11 @@ riseOf p Match = 0
 riseOf p Logic = singleOf p
 riseOf p Not = singleOf p
 riseOf p Comparison = singleOf p
+riseOf p Weighing = singleOf p
 riseOf p Obligation = 0
+riseOf p Literal = 0
+riseOf p Attribute = 0
+riseOf p Operator = 0
 riseOf p Nothing = 0
 
 -- a match has the category of its section, its parent's parent
@@ -118,7 +139,11 @@ underOk Match g c = eqb g c
 underOk Logic g c = true
 underOk Not g c = true
 underOk Comparison g c = true
+underOk Weighing g c = true
 underOk Obligation g c = true
+underOk Literal g c = true
+underOk Attribute g c = true
+underOk Operator g c = true
 underOk Nothing g c = true
 
 -- may a child of kind k and category c stand there: the parent takes it, it comes after the child before it (of rank e), and a match has its section's
@@ -130,12 +155,74 @@ standsOk p k c e g = both (takesOf p k) (both (leb (e + riseOf p k) (rankOf k c)
 abbrev pub standsAt : List ℕ → ℕ → ℕ → Bool
 standsAt b p i = standsOk (kindNumber (kindAt b p)) (kindAt b i) (byteOf b i 4) (elderRank b p (elderOf b p i)) (byteOf b (parentOf b p) 4)
 
--- the lowest rule that a child breaks: 10 it runs past its parent's end, 11 it may not stand there, 12 it is too deep; 0 none
+-- the type that an operator takes and gives, by its choice: 8 adds doubles, the others are of integers
+abbrev pub operatorType : ℕ → ℕ
+operatorType c = if (eqb c 8) 3 1
+
+-- the type of a value: byte 5 of a literal or an attribute, an operator's own; 0 for a record that is no value
+abbrev pub typeBy : Kind → ℕ → ℕ → ℕ
+typeBy PolicySet t c = 0
+typeBy Policy t c = 0
+typeBy Rule t c = 0
+typeBy Section t c = 0
+typeBy Conjunction t c = 0
+typeBy Match t c = 0
+typeBy Logic t c = 0
+typeBy Not t c = 0
+typeBy Comparison t c = 0
+typeBy Weighing t c = 0
+typeBy Obligation t c = 0
+typeBy Literal t c = t
+typeBy Attribute t c = t
+typeBy Operator t c = operatorType c
+typeBy Nothing t c = 0
+
+unfoldable pub valueType : List ℕ → ℕ → ℕ
+valueType b i = typeBy (kindAt b i) (byteOf b i 5 % 128) (byteOf b i 1)
+
+-- the children of record i: the later records whose parent it is
+unfoldable pub isChild : List ℕ → ℕ → ℕ → Bool
+isChild b i j = both (ltb i j) (eqb (parentOf b j) i)
+
+unfoldable pub isOperand : List ℕ → ℕ → ℕ → ℕ → Bool
+isOperand b i t j = both (isChild b i j) (eqb (valueType b j) t)
+
+-- record i has two children, and both are values of type t
+unfoldable pub twoValues : List ℕ → ℕ → ℕ → Bool
+twoValues b i t = both (eqb (countBelow (isChild b i) (endOf b i)) 2) (eqb (countBelow (isOperand b i t) (endOf b i)) 2)
+
+-- values of type t may be compared by choice c: names by 21 only
+unfoldable pub comparableBy : ℕ → ℕ → Bool
+comparableBy t c = if (eqb t 2) (eqb c 21) (ltb 0 t)
+
+-- an operator has two values of its type, a comparison of values two of one type, t; nothing is asked of the children of other records here
+abbrev pub operandsOk : Kind → ℕ → ℕ → (ℕ → Bool) → Bool
+operandsOk PolicySet c t two = true
+operandsOk Policy c t two = true
+operandsOk Rule c t two = true
+operandsOk Section c t two = true
+operandsOk Conjunction c t two = true
+operandsOk Match c t two = true
+operandsOk Logic c t two = true
+operandsOk Not c t two = true
+operandsOk Comparison c t two = true
+operandsOk Weighing c t two = both (comparableBy t c) (two t)
+operandsOk Obligation c t two = true
+operandsOk Literal c t two = true
+operandsOk Attribute c t two = true
+operandsOk Operator c t two = two (operatorType c)
+operandsOk Nothing c t two = true
+
+-- has record i the operands that it wants? the type of two that are compared is the first's, which stands next to it
+unfoldable pub operandsAt : List ℕ → ℕ → Bool
+operandsAt b i = operandsOk (kindAt b i) (byteOf b i 1) (valueType b (i + 1)) (twoValues b i)
+
+-- the lowest rule that a child breaks: 10 it runs past its parent's end, 11 it may not stand there or has not the operands that it wants, 12 it is too deep; 0 none
 unfoldable pub childRule : ℕ → ℕ → ℕ → Bool → ℕ
 childRule end top depth stands = if (leb end top) (if stands (if (leb depth mostDepth) 0 12) 11) 10
 
 unfoldable pub childBroken : List ℕ → ℕ → ℕ → ℕ
-childBroken b p i = childRule (endOf b i) (endOf b p) (depthOf b i) (standsAt b p i)
+childBroken b p i = childRule (endOf b i) (endOf b p) (depthOf b i) (both (standsAt b p i) (operandsAt b i))
 
 -- line 1 is a policy set or a policy, and its span is the record count
 unfoldable pub topOk : List ℕ → Bool

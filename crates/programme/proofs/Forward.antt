@@ -21,11 +21,10 @@ use Rattle.algorithm.specs.declared.Acc.{Acc}
 use Rattle.algorithm.specs.declared.Acc.the-variants.{Ranked, Nobody, Pending, Two, One}
 use Rattle.layout.specs.declared.Head.{Head}
 use Rattle.layout.specs.declared.Frame.{Frame}
-use Rattle.layout.specs.declared.Level.{Level}
 use Rattle.moves.specs.declared.Placing.{Placing}
 use Rattle.moves.specs.declared.Placing.the-variants.{Rest, AddPermit, AddDeny, FallPermit, FallDeny, FallBoth, Cut, Down}
-use Rattle.layout.specs.Entry.{Entry, begin, match, further, opens, compare, close, rule, enter, applies, conclude, oblige, leave, finish, extra, reach, fits, lawful}
-use Rattle.moves.specs.Core.{past, told, settledBy, targetDone, sectionDone, conjunctionDone, matchDone, tell, closed, concluded, noted, finished, core}
+use Rattle.layout.specs.Entry.{loads, asks, works, tests, Entry, begin, match, further, opens, compare, close, sum, rule, enter, applies, conclude, oblige, leave, finish, extra, reach, fits, lawful}
+use Rattle.moves.specs.Core.{past, settles, valueIn, targetDone, sectionDone, conjunctionDone, matchDone, tell, closed, concluded, noted, finished, core}
 use Rattle.layout.specs.Room.{roomF, roomL, roomP}
 use Rattle.stacks.specs.Machine.{permitsAfter, deniesAfter, cutAfter}
 use Rattle.layout.specs.Layout.{unpackOf, allowed, fetch}
@@ -69,7 +68,7 @@ past-far true n r = omega arith
 past-far false n r = omega arith
 
 -- a step leads no further than its entry says
-pub inside : (e : Entry) (g : Bags) (long : ℕ) (h : Head) (l m : Level) (f b : Frame) → h .at + suc (reach e) ≤ long
+pub inside : (e : Entry) (g : Bags) (long : ℕ) (h : Head) (l m : ℕ) (f b : Frame) → h .at + suc (reach e) ≤ long
     → h .at + suc (extra e + core g h e l m f b .next .jump) ≤ long
 unfolding core
 inside (begin al c) g long h l m f b w = w
@@ -80,13 +79,17 @@ inside (compare t n) g long h l m f b w = let z = go (h .nest) in omega (arith, 
   where
     go : (k : ℕ) → tell (comparisonOf g t) n k l (h .reg) .next .jump ≤ n
     go zero = omega arith
-    go (suc k) = past-far (settledBy (l .op) (told l (comparisonOf g t) .val)) n (h .reg)
+    go (suc k) = past-far (settles l (comparisonOf g t)) n (h .reg)
 inside (close n) g long h l m f b w = let z = go (h .nest) in omega (arith, w, z)
   where
     go : (k : ℕ) → closed n k l m (h .reg) .next .jump ≤ n
     go zero = omega arith
     go (suc zero) = omega arith
-    go (suc (suc k)) = past-far (settledBy (m .op) (told m (l .val) .val)) n (h .reg)
+    go (suc (suc k)) = past-far (settles m (valueIn l)) n (h .reg)
+inside (sum (loads k n)) g long h l m f b w = w
+inside (sum (asks key)) g long h l m f b w = w
+inside (sum (works o)) g long h l m f b w = w
+inside (sum (tests y k)) g long h l m f b w = w
 inside (rule e n) g long h l m f b w = let z = past-far (settled (f .alg) (absorb (f .alg) (f .acc) e (Rattle.moves.specs.Core.ruled e (h .reg)))) n Permit in omega (arith, w, z)
 inside (enter al) g long h l m f b w = w
 inside (applies n) g long h l m f b w = let z = go (b .acc) in omega (arith, w, z)
@@ -113,7 +116,7 @@ inside finish g long h l m f b w = go (both (is (h .reg) Deny) (ltb (h .permits)
     go false = w
 
 -- what becomes of the obligations is within reach
-pub placed-core : (e : Entry) (g : Bags) (h : Head) (l m : Level) (f b : Frame) → fits e ≡ true
+pub placed-core : (e : Entry) (g : Bags) (h : Head) (l m : ℕ) (f b : Frame) → fits e ≡ true
     → Placed (core g h e l m f b .placing) (h .permits) (h .denies)
 placed-core e g h l m f b = placing-by (λ e over z. fits e ≡ true → Placed z (h .permits) (h .denies)) h reach-all g e l m f b
   where
@@ -161,7 +164,7 @@ unfolding lawful
 lawful-parts long at e w = let z = both-parts (fits e) (leb (at + suc (reach e)) long) w in (z .0, leb-true (at + suc (reach e)) long (z .1))
 
 -- after a lawful step the place is further on, inside, and the first number is in its range
-pub forward : (e : Entry) (g : Bags) (long : ℕ) (h : Head) (l m : Level) (f b : Frame) → long ≤ 8008 → Ranged h → lawful long (h .at) e ≡ true
+pub forward : (e : Entry) (g : Bags) (long : ℕ) (h : Head) (l m : ℕ) (f b : Frame) → long ≤ 8008 → Ranged h → lawful long (h .at) e ≡ true
     → (h .at < headAfter h e (core g h e l m f b) .at) × (headAfter h e (core g h e l m f b) .at ≤ long) × Ranged (headAfter h e (core g h e l m f b))
 unfolding headAfter
 forward e g long h l m f b s r w =

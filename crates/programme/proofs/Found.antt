@@ -10,7 +10,6 @@ use borrow.Author.Tests.{le-leb, lt-leb, ne-eqb}
 use Rattle.record.specs.Choose.{both}
 use Rattle.record.proofs.Choose.{both-true, both-false}
 use Rattle.meaning.specs.Meaning.{Bags}
-use Rattle.layout.specs.declared.Level.{Level}
 use Rattle.layout.specs.declared.Frame.{Frame}
 use Rattle.layout.specs.declared.Head.{Head}
 use Rattle.moves.specs.declared.Move.{Move}
@@ -26,7 +25,7 @@ same-if : (ok : Bool) (v w : Move) (k n : ℕ) → v ≡ w → k ≡ n → metIf
 same-if true v w k n e f = rw (e, f)
 same-if false v w k n e f = refl
 
-module _ (g : Bags) (long : ℕ) (h : Head) (e : Entry) (l m : Level) (f b : Frame) where
+module _ (g : Bags) (long : ℕ) (h : Head) (e : Entry) (l m : ℕ) (f b : Frame) where
   pub met : (r : Met) (ok : Bool) (v : Move) (k : ℕ) → r ≡ metIf ok v k → ok ≡ lawful long (h .at) e
       → v ≡ moveOf (core g h e l m f b) → k ≡ extra e → r ≡ meets g long h e l m f b
   unfolding meets
@@ -90,7 +89,7 @@ pub found : (p : List ℕ) (i k : ℕ) → getD p i 0 % 16 ≡ k → fetch p i �
 unfolding fetch entryOf
 found p i k e = rw e
 
-pub no-entry : (k n literal ways : ℕ) → 11 < k → entryBy k n literal ways ≡ further
+pub no-entry : (k n literal ways : ℕ) → 12 < k → entryBy k n literal ways ≡ further
 unfolding entryBy
 no-entry k n literal ways a =
     rw (
@@ -106,10 +105,11 @@ no-entry k n literal ways a =
       ne-eqb k 9 (λ e. omega arith),
       ne-eqb k 10 (λ e. omega arith),
       ne-eqb k 11 (λ e. omega arith),
+      ne-eqb k 12 (λ e. omega arith),
     )
 
 -- a number that no kind has
-pub lawful-none : (p : List ℕ) (i long : ℕ) → 11 < getD p i 0 % 16 → lawful long i (fetch p i) ≡ false
+pub lawful-none : (p : List ℕ) (i long : ℕ) → 12 < getD p i 0 % 16 → lawful long i (fetch p i) ≡ false
 unfolding lawful
 lawful-none p i long a = rw (found p i (getD p i 0 % 16) refl, no-entry (getD p i 0 % 16) (getD p i 0 / 16) (getD p (i + 1) 0) (getD p (i + 2) 0) a)
 
@@ -120,5 +120,5 @@ beyond : (n k : ℕ) → n ≤ k → (k ≡ n → ⊥) → n + 1 ≤ k
 beyond n k a e = omega arith
 
 pub past-all : (k : ℕ) → (k ≡ 0 → ⊥) → (k ≡ 1 → ⊥) → (k ≡ 2 → ⊥) → (k ≡ 3 → ⊥) → (k ≡ 4 → ⊥) → (k ≡ 5 → ⊥) → (k ≡ 6 → ⊥) → (k ≡ 7 → ⊥)
-    → (k ≡ 8 → ⊥) → (k ≡ 9 → ⊥) → (k ≡ 10 → ⊥) → (k ≡ 11 → ⊥) → 11 < k
-past-all k a0 a1 a2 a3 a4 a5 a6 a7 a8 a9 a10 a11 = let b4 = beyond 3 k (beyond 2 k (beyond 1 k (beyond 0 k (none-below k) a0) a1) a2) a3 in let b8 = beyond 7 k (beyond 6 k (beyond 5 k (beyond 4 k b4 a4) a5) a6) a7 in beyond 11 k (beyond 10 k (beyond 9 k (beyond 8 k b8 a8) a9) a10) a11
+    → (k ≡ 8 → ⊥) → (k ≡ 9 → ⊥) → (k ≡ 10 → ⊥) → (k ≡ 11 → ⊥) → (k ≡ 12 → ⊥) → 12 < k
+past-all k a0 a1 a2 a3 a4 a5 a6 a7 a8 a9 a10 a11 a12 = let b4 = beyond 3 k (beyond 2 k (beyond 1 k (beyond 0 k (none-below k) a0) a1) a2) a3 in let b8 = beyond 7 k (beyond 6 k (beyond 5 k (beyond 4 k b4 a4) a5) a6) a7 in beyond 12 k (beyond 11 k (beyond 10 k (beyond 9 k (beyond 8 k b8 a8) a9) a10) a11) a12

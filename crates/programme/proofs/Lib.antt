@@ -1,4 +1,5 @@
 pub mod Forward
 pub mod Found
+pub mod Pieces
 pub mod Stepping
 pub mod Unique

@@ -14,7 +14,7 @@ use Rattle.programme.specs.declared.Met.the-variants.{Outside, Does}
 use Rattle.layout.specs.Entry.{Entry, extra}
 use Rattle.moves.specs.Core.{Changing, keep, push, swap, below, back, Out}
 use Rattle.stacks.specs.Machine.{heightAfter, stackAfter, placesAfter}
-use Rattle.layout.specs.Layout.{levelOf, levelWord, frameOf, frameWord, unpackOf, packOf, allowed, fetch}
+use Rattle.layout.specs.Layout.{frameOf, frameWord, unpackOf, packOf, allowed, fetch}
 use Rattle.stacks.specs.Carry.{changingOf, inWords, Placed, headWith}
 use Rattle.programme.specs.Step.{headAfter, after, seen, mayStep, stepOf, steppedOf, stateOf}
 use Rattle.layout.specs.Ranges.{Ranged}
@@ -31,9 +31,17 @@ height-same f room k (swap x) = refl
 height-same f room k (below x) = refl
 height-same f room k (back x) = refl
 
+-- and of numbers it is the same change
+numbers-same : (z : Changing ℕ) → inWords (λ (n : ℕ). n) z ≡ z
+numbers-same keep = refl
+numbers-same (push x) = refl
+numbers-same (swap x) = refl
+numbers-same (below x) = refl
+numbers-same (back x) = refl
+
 with-is : (h : Head) (e : Entry) (x : Out) → headWith h (extra e) (moveOf x) ≡ headAfter h e x
 unfolding headWith headAfter
-with-is h e x = rw (height-same frameWord 17 (h .depth) (x .frames), height-same levelWord 15 (h .nest) (x .levels))
+with-is h e x = rw (height-same frameWord 17 (h .depth) (x .frames), numbers-same (x .levels))
 
 -- what was met tells whether it was lawful
 found-does : (ok : Bool) (v w : Move) (k n : ℕ) → Does w n ≡ metIf ok v k → (ok ≡ true) × (w ≡ v) × (n ≡ k)
@@ -56,7 +64,7 @@ module _ (p : List ℕ) (g : Bags) (s : State) where
   outcome = seen g s heads entry
 
   module _ (h : Head) (i j : ℕ) (r : Met) (u : h ≡ unpackOf (s .head)) (d : i ≡ h .depth - 1) (n : j ≡ h .nest - 1)
-      (q : r ≡ meets g (length p) h (fetch p (h .at)) (levelOf (getD (s .levels) (h .nest) 0)) (levelOf (getD (s .levels) j 0))
+      (q : r ≡ meets g (length p) h (fetch p (h .at)) (getD (s .levels) (h .nest) 0) (getD (s .levels) j 0)
       (frameOf (getD (s .frames) (h .depth) 0)) (frameOf (getD (s .frames) i 0))) where
     met-is : r ≡ metIf (mayStep p s) (moveOf outcome) (extra entry)
     unfolding meets mayStep seen
@@ -99,5 +107,6 @@ module _ (p : List ℕ) (g : Bags) (s : State) where
             found .2,
             u,
             with-is heads entry outcome,
+            numbers-same (outcome .levels),
           )
           (refl, refl, after-ranged)

@@ -7,7 +7,6 @@ use Rattle.layout.specs.declared.Head.{Head}
 use Rattle.moves.specs.declared.Move.{Move}
 use Rattle.programme.specs.declared.Met.{Met}
 use Rattle.programme.specs.declared.Met.the-variants.{Outside, Does}
-use Rattle.layout.specs.declared.Level.{Level}
 use Rattle.layout.specs.declared.Frame.{Frame}
 use Rattle.layout.specs.Entry.{Entry, extra, lawful}
 use Rattle.moves.specs.Core.{core}
@@ -17,5 +16,5 @@ use Rattle.moves.specs.Moves.{moveOf}
 abbrev pub metIf : Bool → Move → ℕ → Met
 metIf ok m k = if ok (Does m k) Outside
 
-unfoldable pub meets : Bags → ℕ → Head → Entry → Level → Level → Frame → Frame → Met
+unfoldable pub meets : Bags → ℕ → Head → Entry → ℕ → ℕ → Frame → Frame → Met
 meets g long h e l m f b = metIf (lawful long (h .at) e) (moveOf (core g h e l m f b)) (extra e)

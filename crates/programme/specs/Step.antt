@@ -8,7 +8,7 @@ use Rattle.layout.specs.Entry.{Entry, extra, lawful}
 use Rattle.moves.specs.Core.{Out, core}
 use Rattle.layout.specs.Room.{roomF, roomL, roomP}
 use Rattle.stacks.specs.Machine.{heightAfter, stackAfter, placesAfter}
-use Rattle.layout.specs.Layout.{levelWord, frameWord, levelOf, frameOf, unpackOf, packOf, fetch}
+use Rattle.layout.specs.Layout.{frameWord, frameOf, unpackOf, packOf, fetch}
 use mathlib.Core.List.{List}
 use lib.ListN.{length, getD, replicate}
 use Rattle.meaning.specs.declared.Decision.{Decision}
@@ -27,7 +27,7 @@ unfoldable pub after : Head → Entry → Out → State → State
 after h e x s = record {
   head = packOf (headAfter h e x);
   frames = stackAfter roomF (inWords frameWord (x .frames)) (h .depth) (s .frames);
-  levels = stackAfter roomL (inWords levelWord (x .levels)) (h .nest) (s .levels);
+  levels = stackAfter roomL (x .levels) (h .nest) (s .levels);
   places = placesAfter (x .placing) (h .cut) (h .permits) (h .denies) (s .places);
 }
 
@@ -35,7 +35,7 @@ after h e x s = record {
 unfoldable pub seen : Bags → State → Head → Entry → Out
 seen g s h e =
     core g h e
-    (levelOf (getD (s .levels) (h .nest) 0)) (levelOf (getD (s .levels) (h .nest - 1) 0))
+    (getD (s .levels) (h .nest) 0) (getD (s .levels) (h .nest - 1) 0)
     (frameOf (getD (s .frames) (h .depth) 0)) (frameOf (getD (s .frames) (h .depth - 1) 0))
 
 -- may a step be taken: the entries that it meets are in their layout

@@ -7,9 +7,9 @@ use layout::Level;
 use layout::effect_by;
 use layout::frame_of;
 use layout::frame_word;
-use layout::level_of;
 use layout::level_word;
 use layout::op_by;
+use layout::operator_by;
 use meaning::Decision;
 use meaning::Effect;
 use meaning::Test;
@@ -23,6 +23,9 @@ use moves::conditions::start_of;
 use moves::conditions::tell_level;
 use moves::moving;
 use moves::past_if;
+use moves::pieces::put_word;
+use moves::pieces::test_words;
+use moves::pieces::work_words;
 use moves::policies::conclude_by;
 use moves::policies::entered;
 use moves::policies::note_in;
@@ -32,16 +35,17 @@ use moves::policies::ruled_by;
 use moves::targets::Stands;
 use moves::targets::match_done;
 use moves::unchanged;
+use sums::Word;
 ghost use mathlib.Core.Path.{_≡_};
-ghost use Prim.Native.Nat.{suc, _+_, _-_, _/_, _%_, _<_, max, min};
+ghost use Prim.Native.Nat.{ℕ, suc, _+_, _-_, _/_, _%_, _<_, max, min};
 ghost use lib.Dec.{leb, ltb, eqb};
 ghost use lib.ListN.{length, getD};
 ghost use Rattle.record.specs.Choose.{both};
 ghost use Rattle.meaning.specs.Meaning.{Bags, is};
 ghost use Rattle.meaning.specs.Reading.{bagsOf};
-ghost use Rattle.layout.specs.Entry.{begin, opens, close, rule, enter, applies, conclude, oblige, leave, finish};
+ghost use Rattle.layout.specs.Entry.{begin, opens, close, sum, rule, enter, applies, conclude, oblige, leave, finish};
 ghost use Rattle.moves.specs.Core.{atOnce, ending, finished};
-ghost use Rattle.layout.specs.Layout.{testOf, matchBy, compareBy, effectBy, opBy, algorithmBy, levelOf, frameOf, fetch};
+ghost use Rattle.layout.specs.Layout.{testOf, matchBy, compareBy, pieceBy, effectBy, opBy, algorithmBy, frameOf, fetch};
 ghost use Rattle.layout.specs.Ranges.{Held};
 ghost use Rattle.moves.specs.Moves.{moveOf};
 ghost use Rattle.programme.specs.Meets.{metIf, meets};
@@ -68,7 +72,7 @@ fn reaches(long: u64, at: u64, n: u64) -> bool
 
 fn begin_at(long: u64, h: Head, n: u64) -> Met
     requires { ⌜ h .at < long ⌝ }
-    ensures { λ r. ⌜ ((g : Bags) (l m : Level) (f b : Frame) → r ≡ meets g long h (begin (algorithmBy (n % 8)) (n / 8)) l m f b) ⌝ }
+    ensures { λ r. ⌜ ((g : Bags) (l m : ℕ) (f b : Frame) → r ≡ meets g long h (begin (algorithmBy (n % 8)) (n / 8)) l m f b) ⌝ }
 {
     let cut = n / 8;
     let w = entered(n % 8, 0, 0);
@@ -122,7 +126,7 @@ fn larger(a: u64, b: u64) -> u64
 
 fn match_at(programme: &[u64], request: &[u8], h: Head, n: u64) -> Met
     requires { ⌜ h .at < length (now programme) ⌝ }
-    ensures { λ r. ⌜ ((l m : Level) (f b : Frame) → r ≡ meets (bagsOf (now (request .entry))) (length (now (programme .entry))) h
+    ensures { λ r. ⌜ ((l m : ℕ) (f b : Frame) → r ≡ meets (bagsOf (now (request .entry))) (length (now (programme .entry))) h
         (matchBy n (getD (now (programme .entry)) (h .at + 1) 0) (getD (now (programme .entry)) (h .at + 2) 0)) l m f b) ⌝ }
 {
     let at = h.at as usize;
@@ -147,8 +151,8 @@ fn match_at(programme: &[u64], request: &[u8], h: Head, n: u64) -> Met
 
 fn compare_at(programme: &[u64], request: &[u8], h: Head, n: u64, l: u64) -> Met
     requires { ⌜ h .at < length (now programme) ⌝ }
-    ensures { λ r. ⌜ ((m : Level) (f b : Frame) → r ≡ meets (bagsOf (now (request .entry))) (length (now (programme .entry))) h
-        (compareBy n (getD (now (programme .entry)) (h .at + 1) 0)) (levelOf l) m f b) ⌝ }
+    ensures { λ r. ⌜ ((m : ℕ) (f b : Frame) → r ≡ meets (bagsOf (now (request .entry))) (length (now (programme .entry))) h
+        (compareBy n (getD (now (programme .entry)) (h .at + 1) 0)) l m f b) ⌝ }
 {
     let at = h.at as usize;
     if programme.len() - at < 2 {
@@ -162,13 +166,13 @@ fn compare_at(programme: &[u64], request: &[u8], h: Head, n: u64, l: u64) -> Met
     let reg = h.reg;
     let t = test_by(n, n / 16 % 4294967296, literal);
     let v = request::comparison(request, t);
-    Met::Does(tell_level(v, jump, h.nest, level_of(l), reg), 1)
+    Met::Does(tell_level(v, jump, h.nest, l, reg), 1)
 }
 
 // Conditions.
 fn open_at(long: u64, h: Head, n: u64) -> Met
     requires { ⌜ h .at < long ⌝ }
-    ensures { λ r. ⌜ ((g : Bags) (l m : Level) (f b : Frame) → r ≡ meets g long h (opens (opBy n)) l m f b) ⌝ }
+    ensures { λ r. ⌜ ((g : Bags) (l m : ℕ) (f b : Frame) → r ≡ meets g long h (opens (opBy n)) l m f b) ⌝ }
 {
     let op = op_by(n);
     let top = Level {
@@ -186,17 +190,47 @@ fn open_at(long: u64, h: Head, n: u64) -> Met
 
 fn close_at(long: u64, h: Head, n: u64, l: u64, m: u64) -> Met
     requires { ⌜ h .at < long ⌝ }
-    ensures { λ r. ⌜ ((g : Bags) (f b : Frame) → r ≡ meets g long h (close n) (levelOf l) (levelOf m) f b) ⌝ }
+    ensures { λ r. ⌜ ((g : Bags) (f b : Frame) → r ≡ meets g long h (close n) l m f b) ⌝ }
 {
     let reg = h.reg;
-    let closes = close_level(n, h.nest, level_of(l), level_of(m), reg);
+    let closes = close_level(n, h.nest, l, m, reg);
     unless_outside(reaches(long, h.at, n), closes, 0)
+}
+
+// A piece of a comparison of two values.
+fn sum_at(programme: &[u64], request: &[u8], h: Head, n: u64, l: u64, m: u64) -> Met
+    requires { ⌜ h .at < length (now programme) ⌝ }
+    ensures { λ r. ⌜ ((f b : Frame) → r ≡ meets (bagsOf (now (request .entry))) (length (now (programme .entry))) h
+        (sum (pieceBy (n % 4) (n / 4) (getD (now (programme .entry)) (h .at + 1) 0))) l m f b) ⌝ }
+{
+    let rest = n / 4;
+    match n % 4 {
+        0 => {
+            let at = h.at as usize;
+            if programme.len() - at < 2 {
+                return Met::Outside;
+            }
+            let literal = programme[at + 1];
+            Met::Does(put_word(h, Word::Holds(literal)), 1)
+        }
+        1 => {
+            let key = rest % 4294967296;
+            Met::Does(put_word(h, request::only(request, key as u32)), 0)
+        }
+        2 => Met::Does(work_words(h, operator_by(rest), l, m), 0),
+        _ => {
+            let number = rest % 8;
+            let f = value::function_of(number as usize);
+            let kind = rest / 8;
+            Met::Does(test_words(h, f, kind as usize, l, m), 0)
+        }
+    }
 }
 
 // Rules, policies and sets.
 fn rule_at(long: u64, h: Head, n: u64, f: u64) -> Met
     requires { ⌜ h .at < long ⌝ }
-    ensures { λ r. ⌜ ((g : Bags) (l m : Level) (b : Frame) → r ≡ meets g long h (rule (effectBy (n % 2)) (n / 2)) l m (frameOf f) b) ⌝ }
+    ensures { λ r. ⌜ ((g : Bags) (l m : ℕ) (b : Frame) → r ≡ meets g long h (rule (effectBy (n % 2)) (n / 2)) l m (frameOf f) b) ⌝ }
 {
     let jump = n / 2;
     let e = effect_by(n % 2);
@@ -213,7 +247,7 @@ fn rule_at(long: u64, h: Head, n: u64, f: u64) -> Met
 
 fn enter_at(long: u64, h: Head, n: u64) -> Met
     requires { ⌜ (h .at < long) × Held h ⌝ }
-    ensures { λ r. ⌜ ((g : Bags) (l m : Level) (f b : Frame) → r ≡ meets g long h (enter (algorithmBy n)) l m f b) ⌝ }
+    ensures { λ r. ⌜ ((g : Bags) (l m : ℕ) (f b : Frame) → r ≡ meets g long h (enter (algorithmBy n)) l m f b) ⌝ }
 {
     let ands = h.ands;
     let ors = h.ors;
@@ -235,7 +269,7 @@ fn enter_at(long: u64, h: Head, n: u64) -> Met
 
 fn applies_at(long: u64, h: Head, n: u64, b: u64) -> Met
     requires { ⌜ h .at < long ⌝ }
-    ensures { λ r. ⌜ ((g : Bags) (l m : Level) (f : Frame) → r ≡ meets g long h (applies n) l m f (frameOf b)) ⌝ }
+    ensures { λ r. ⌜ ((g : Bags) (l m : ℕ) (f : Frame) → r ≡ meets g long h (applies n) l m f (frameOf b)) ⌝ }
 {
     let reg = h.reg;
     let m = note_in(frame_of(b), n, reg);
@@ -244,7 +278,7 @@ fn applies_at(long: u64, h: Head, n: u64, b: u64) -> Met
 
 fn conclude_at(long: u64, h: Head, n: u64, f: u64) -> Met
     requires { ⌜ h .at < long ⌝ }
-    ensures { λ r. ⌜ ((g : Bags) (l m : Level) (b : Frame) → r ≡ meets g long h (conclude n) l m (frameOf f) b) ⌝ }
+    ensures { λ r. ⌜ ((g : Bags) (l m : ℕ) (b : Frame) → r ≡ meets g long h (conclude n) l m (frameOf f) b) ⌝ }
 {
     let top = frame_of(f);
     let alg = top.alg;
@@ -255,7 +289,7 @@ fn conclude_at(long: u64, h: Head, n: u64, f: u64) -> Met
 
 fn oblige_at(long: u64, h: Head, n: u64) -> Met
     requires { ⌜ h .at < long ⌝ }
-    ensures { λ r. ⌜ ((g : Bags) (l m : Level) (f b : Frame) → r ≡ meets g long h (oblige (effectBy (n % 2)) (n / 2)) l m f b) ⌝ }
+    ensures { λ r. ⌜ ((g : Bags) (l m : ℕ) (f b : Frame) → r ≡ meets g long h (oblige (effectBy (n % 2)) (n / 2)) l m f b) ⌝ }
 {
     let number = n / 2;
     let e = effect_by(n % 2);
@@ -267,7 +301,7 @@ fn oblige_at(long: u64, h: Head, n: u64) -> Met
 
 fn leave_at(long: u64, h: Head, n: u64, b: u64) -> Met
     requires { ⌜ h .at < long ⌝ }
-    ensures { λ r. ⌜ ((g : Bags) (l m : Level) (f : Frame) → r ≡ meets g long h (leave n) l m f (frameOf b)) ⌝ }
+    ensures { λ r. ⌜ ((g : Bags) (l m : ℕ) (f : Frame) → r ≡ meets g long h (leave n) l m f (frameOf b)) ⌝ }
 {
     let under = frame_of(b);
     let alg = under.alg;
@@ -336,7 +370,7 @@ fn finish_by(h: Head) -> Move
 
 fn finish_at(long: u64, h: Head) -> Met
     requires { ⌜ (h .at < long) × Held h ⌝ }
-    ensures { λ r. ⌜ ((g : Bags) (l m : Level) (f b : Frame) → r ≡ meets g long h finish l m f b) ⌝ }
+    ensures { λ r. ⌜ ((g : Bags) (l m : ℕ) (f b : Frame) → r ≡ meets g long h finish l m f b) ⌝ }
 {
     unless_outside(true, finish_by(h), 0)
 }
@@ -345,7 +379,7 @@ fn finish_at(long: u64, h: Head) -> Met
 pub fn meet(programme: &[u64], request: &[u8], h: Head, l: u64, m: u64, f: u64, b: u64) -> Met
     requires { ⌜ Held h ⌝ }
     ensures { λ r. ⌜ r ≡ meets (bagsOf (now (request .entry))) (length (now (programme .entry))) h (fetch (now (programme .entry)) (h .at))
-        (levelOf l) (levelOf m) (frameOf f) (frameOf b) ⌝ }
+        l m (frameOf f) (frameOf b) ⌝ }
 {
     let at = h.at as usize;
     if programme.len() <= at {
@@ -367,6 +401,7 @@ pub fn meet(programme: &[u64], request: &[u8], h: Head, l: u64, m: u64, f: u64, 
         9 => oblige_at(long, h, n),
         10 => leave_at(long, h, n, b),
         11 => finish_at(long, h),
+        12 => sum_at(programme, request, h, n, l, m),
         _ => Met::Outside,
     }
 }

@@ -14,14 +14,13 @@ use Rattle.meaning.specs.Meaning.{Bags, matchOf, comparisonOf, is}
 use Rattle.layout.specs.declared.Head.{Head}
 use Rattle.layout.specs.declared.State.{State}
 use Rattle.layout.specs.declared.Frame.{Frame}
-use Rattle.layout.specs.declared.Level.{Level}
 use Rattle.moves.specs.declared.Placing.{Placing}
 use Rattle.moves.specs.declared.Placing.the-variants.{Rest, AddPermit, AddDeny, FallPermit, FallDeny, FallBoth, Cut, Down}
-use Rattle.layout.specs.Entry.{Entry, begin, match, further, opens, compare, close, rule, enter, applies, conclude, oblige, leave, finish}
+use Rattle.layout.specs.Entry.{loads, asks, works, tests, Entry, begin, match, further, opens, compare, close, sum, rule, enter, applies, conclude, oblige, leave, finish}
 use Rattle.moves.specs.Core.{Changing, keep, push, swap, below, back, Out, core}
 use Rattle.layout.specs.Room.{roomF, roomL, roomP}
 use Rattle.stacks.specs.Machine.{stackAfter, copies, placesAfter}
-use Rattle.layout.specs.Layout.{frameWord, levelWord, fetch}
+use Rattle.layout.specs.Layout.{frameWord, fetch}
 use Rattle.stacks.specs.Carry.{inWords}
 use Rattle.programme.specs.Step.{after, seen, mayStep, stepOf, isOver, freshOf}
 use Rattle.moves.proofs.Placings.{ByEntry, placing-by}
@@ -34,7 +33,7 @@ pub at-most-eleven : AtMostEleven
 at-most-eleven h = omega arith
 
 -- one bag
-core-bag : (e : Entry) (g : Bags) (x : Head) (l m : Level) (f b : Frame) → core g x e l m f b ≡ core (λ k. g (asked e)) x e l m f b
+core-bag : (e : Entry) (g : Bags) (x : Head) (l m : ℕ) (f b : Frame) → core g x e l m f b ≡ core (λ k. g (asked e)) x e l m f b
 unfolding core matchOf comparisonOf
 core-bag (begin al c) g x l m f b = refl
 core-bag (match t k c s i j y) g x l m f b = refl
@@ -42,6 +41,10 @@ core-bag further g x l m f b = refl
 core-bag (opens op) g x l m f b = refl
 core-bag (compare t n) g x l m f b = refl
 core-bag (close n) g x l m f b = refl
+core-bag (sum (loads k n)) g x l m f b = refl
+core-bag (sum (asks key)) g x l m f b = refl
+core-bag (sum (works o)) g x l m f b = refl
+core-bag (sum (tests y k)) g x l m f b = refl
 core-bag (rule y n) g x l m f b = refl
 core-bag (enter al) g x l m f b = refl
 core-bag (applies n) g x l m f b = refl
@@ -119,7 +122,7 @@ by-sight p g s w = (refl, rw (← same-out p g s) refl, each)
         rw (← same-out p g s) (in-stack s (frame k) (s .frames) k refl (omega (arith, l, e)) roomF e (inWords frameWord (outOf p g s .frames)) (headOf s .depth))
     each (level k) l =
         let e = w .levels in
-        rw (← same-out p g s) (in-stack s (level k) (s .levels) k refl (omega (arith, l, e)) roomL e (inWords levelWord (outOf p g s .levels)) (headOf s .nest))
+        rw (← same-out p g s) (in-stack s (level k) (s .levels) k refl (omega (arith, l, e)) roomL e (outOf p g s .levels) (headOf s .nest))
     each (place k) l = rw (← same-out p g s) (in-places s (s .places) k refl (w .places) l (outOf p g s .placing) (headOf s))
 
 -- places: a step brings down no more than two, and puts none but the number that it met
@@ -133,7 +136,7 @@ Modest e (FallBoth h k) = Unit
 Modest e (Cut c) = Unit
 Modest e (Down n) = n ≤ 2
 
-modest-core : (e : Entry) (g : Bags) (h : Head) (l m : Level) (f b : Frame) → Modest e (core g h e l m f b .placing)
+modest-core : (e : Entry) (g : Bags) (h : Head) (l m : ℕ) (f b : Frame) → Modest e (core g h e l m f b .placing)
 unfolding Modest Obliges
 modest-core e g h l m f b = placing-by (λ e over z. Modest e z) h modest g e l m f b
   where
@@ -219,7 +222,7 @@ touches-no-more w (frame k) =
     (inWords frameWord (outIn w .frames))
 touches-no-more w (level k) =
     within-stack w (level k) tt (headIn w .nest) k (λ e. inr (inr (inr (inl (ap level e))))) (λ e. inr (inr (inr (inr (inl (ap level e))))))
-    (λ e. inr (inr (inr (inr (inr (inl (ap level e))))))) (inWords levelWord (outIn w .levels))
+    (λ e. inr (inr (inr (inr (inr (inl (ap level e))))))) (outIn w .levels)
 touches-no-more w (place k) = within-places w k (outIn w .placing) (modest-core (entryIn w) (λ x. w .bag) (headIn w) _ _ _ _)
 
 -- the same sight
@@ -263,7 +266,7 @@ pub stays-sized : StaysSized
 unfolding stepOf after
 stays-sized p g s w = record {
   frames = stack-length roomF (inWords frameWord (outOf p g s .frames)) (headOf s .depth) (s .frames) ∙ w .frames;
-  levels = stack-length roomL (inWords levelWord (outOf p g s .levels)) (headOf s .nest) (s .levels) ∙ w .levels;
+  levels = stack-length roomL (outOf p g s .levels) (headOf s .nest) (s .levels) ∙ w .levels;
   places = places-length (outOf p g s .placing) (headOf s .cut) (headOf s .permits) (headOf s .denies) (s .places) ∙ w .places;
 }
 

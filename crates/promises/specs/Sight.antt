@@ -14,15 +14,21 @@ use Rattle.layout.specs.declared.Head.{Head}
 use Rattle.layout.specs.declared.State.{State}
 use Rattle.moves.specs.declared.Placing.{Placing}
 use Rattle.moves.specs.declared.Placing.the-variants.{Rest, AddPermit, AddDeny, FallPermit, FallDeny, FallBoth, Cut, Down}
-use Rattle.layout.specs.Entry.{Entry, begin, match, further, opens, compare, close, rule, enter, applies, conclude, oblige, leave, finish, lawful}
+use Rattle.layout.specs.Entry.{Piece, loads, asks, works, tests, Entry, begin, match, further, opens, compare, close, sum, rule, enter, applies, conclude, oblige, leave, finish, lawful}
 use Rattle.moves.specs.Core.{Changing, keep, push, swap, below, back, Out, core}
-use Rattle.layout.specs.Layout.{frameOf, frameWord, levelOf, levelWord, unpackOf, packOf, entryOf}
+use Rattle.layout.specs.Layout.{frameOf, frameWord, unpackOf, packOf, entryOf}
 use Rattle.stacks.specs.Carry.{inWords}
 use Rattle.programme.specs.Step.{headAfter, mayStep, stepOf, freshOf}
 use Rattle.run.specs.Run.{runOf}
 use Rattle.promises.specs.Place.{headOf, Place, frame, level, place, Sized, There, held, touched, In}
 
 -- the key of the one bag that a step may ask for
+abbrev pub pieceAsked : Piece → Key
+pieceAsked (loads k n) = keyBy 0
+pieceAsked (asks key) = keyBy key
+pieceAsked (works o) = keyBy 0
+pieceAsked (tests f k) = keyBy 0
+
 abbrev pub asked : Entry → Key
 asked (begin al c) = keyBy 0
 asked (match t m c l i j x) = keyOf t
@@ -30,6 +36,7 @@ asked further = keyBy 0
 asked (opens op) = keyBy 0
 asked (compare t n) = keyOf t
 asked (close n) = keyBy 0
+asked (sum p) = pieceAsked p
 asked (rule e n) = keyBy 0
 asked (enter al) = keyBy 0
 asked (applies n) = keyBy 0
@@ -74,7 +81,7 @@ abbrev pub entryIn : Sight → Entry
 entryIn w = entryOf (w .entry) (w .second) (w .third)
 
 abbrev pub outIn : Sight → Out
-outIn w = core (λ k. w .bag) (headIn w) (entryIn w) (levelOf (w .top-level)) (levelOf (w .level-below)) (frameOf (w .top-frame)) (frameOf (w .frame-below))
+outIn w = core (λ k. w .bag) (headIn w) (entryIn w) (w .top-level) (w .level-below) (frameOf (w .top-frame)) (frameOf (w .frame-below))
 
 abbrev pub mayIn : Sight → Bool
 mayIn w = lawful (w .long) (headIn w .at) (entryIn w)
@@ -113,7 +120,7 @@ inPlaces (Down n) h k = if (both (leb (h .permits) k) (ltb k (h .permits + n))) 
 
 abbrev pub sourceOf : Sight → Place → Source
 sourceOf w (frame k) = inStack (inWords frameWord (outIn w .frames)) (headIn w .depth) k
-sourceOf w (level k) = inStack (inWords levelWord (outIn w .levels)) (headIn w .nest) k
+sourceOf w (level k) = inStack (outIn w .levels) (headIn w .nest) k
 sourceOf w (place k) = inPlaces (outIn w .placing) (headIn w) k
 
 -- a step is what its sight says, in every number of the state
@@ -136,6 +143,7 @@ Obliges further v = ⊥
 Obliges (opens op) v = ⊥
 Obliges (compare t n) v = ⊥
 Obliges (close n) v = ⊥
+Obliges (sum p) v = ⊥
 Obliges (rule e n) v = ⊥
 Obliges (enter al) v = ⊥
 Obliges (applies n) v = ⊥

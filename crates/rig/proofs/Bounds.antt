@@ -16,8 +16,8 @@ use Rattle.judge.specs.declared.Judged.the-variants as book
 use Rattle.judge.proofs.Bounds.{refused-small}
 use Rattle.judge.proofs.Exactly.{accepted-keeps}
 use Rattle.layout.specs.declared.State.{State}
-use Rattle.layout.specs.Entry.{Entry, begin, match, further, opens, compare, close, rule, enter, applies, conclude, oblige, leave, finish}
-use Rattle.layout.specs.Layout.{allowed, wordsOf}
+use Rattle.layout.specs.Entry.{loads, asks, works, tests, Entry, begin, match, further, opens, compare, close, sum, rule, enter, applies, conclude, oblige, leave, finish}
+use Rattle.layout.specs.Layout.{allowed, pieceWords, wordsOf}
 use Rattle.programme.specs.Step.{stateOf}
 use Rattle.run.specs.declared.kinds.Answer.the-variants.{Refused}
 use Rattle.code.specs.Code.{translated as code, inNumbers}
@@ -49,13 +49,17 @@ SmallTranslated (translated.Entries n) = n ≤ 24024
 SmallTranslated (translated.Refused r) = r .line ≤ mostRecords
 
 few-words : (e : Entry) → length (wordsOf e) ≤ 3
-unfolding wordsOf
+unfolding wordsOf pieceWords
 few-words (begin al c) = omega arith
 few-words (match t m c s i j x) = omega arith
 few-words further = omega arith
 few-words (opens op) = omega arith
 few-words (compare t n) = omega arith
 few-words (close n) = omega arith
+few-words (sum (loads k n)) = omega arith
+few-words (sum (asks key)) = omega arith
+few-words (sum (works o)) = omega arith
+few-words (sum (tests f k)) = omega arith
 few-words (rule e n) = omega arith
 few-words (enter al) = omega arith
 few-words (applies n) = omega arith

@@ -4,16 +4,17 @@ use mathlib.Core.Bool.{Bool, true, false}
 use mathlib.Core.List.{List, [], _∷_}
 use Prim.Native.Nat.{ℕ, _+_, _-_, _≤_, _<_}
 use native.Mathlib.Omega.{arith}
-use borrow.Author.Tests.{ne-eqb, eqb-true, eqb-false}
+use borrow.Author.Tests.{ne-eqb, eqb-true, eqb-false, lt-ltb, le-ltb}
 use lib.Dec.{eqb}
 use Rattle.record.specs.Choose.{if}
 use Rattle.record.specs.Bytes.{byteOf}
 use Rattle.record.specs.Forest.{Forest, none, node, spanIn, forest}
 use Rattle.record.proofs.Forests.{span-pos, span-le, forest-none, forest-step, forest-more}
+use Rattle.value.specs.Value.{functionOf}
 use Rattle.meaning.specs.Logic.{andAll, orAll, notOf}
-use Rattle.meaning.specs.Policy.{Conditions, compares, all, any, OverRules, rulesDeny, rulesPermit, rulesFirst}
+use Rattle.meaning.specs.Policy.{compares, weighs, all, OverRules, rulesDeny, rulesPermit, rulesFirst}
 use Rattle.meaning.specs.Meaning.{Bags, matchOf, comparisonOf, conditionOf, conditionsOf, each, conjunctionOf, sectionOf, sectionsOf, targetOf, under, decisionOf, whenOf, ruleOf, combine, overRules, ruleChild, ruleChildren}
-use Rattle.meaning.specs.Reading.{matchAt, comparisonAt, rowOf, childrenAt, conjunctionAt, sectionAt, targetIn, notAt, conditionAt, conditionFrom, conditionsIn, whenIn, effectOf, ruleAt, rulesIn}
+use Rattle.meaning.specs.Reading.{choiceAt, matchAt, comparisonAt, rowOf, childrenAt, conjunctionAt, sectionAt, targetIn, exprsIn, weighsAt, conditionAt, conditionFrom, conditionsIn, whenIn, effectOf, ruleAt, rulesIn}
 use Rattle.meaning.specs.declared.Test.{Test}
 use Rattle.meaning.specs.declared.Truth.{Truth}
 use Rattle.meaning.specs.declared.Truth.the-variants.{True, False, Unknown}
@@ -21,6 +22,8 @@ use Rattle.meaning.specs.declared.Effect.{Effect}
 use Rattle.meaning.specs.declared.Decision.{Decision}
 use Rattle.meaning.specs.declared.Decision.the-variants.{NotApplicable, Indeterminate}
 use Rattle.meaning.specs.declared.Algorithm.{Algorithm}
+use Rattle.weigh.specs.Two.{secondIn}
+use Rattle.weigh.proofs.Laws.{few}
 use Rattle.algorithm.specs.Fold.{start, absorb, settled, result, isOnly}
 use Rattle.algorithm.specs.declared.Acc.{Acc}
 use Rattle.algorithm.proofs.Walk.{takes, walk, result-right}
@@ -130,19 +133,35 @@ module _ (b : List ℕ) (g : Bags) (i s : ℕ) {k : ℕ} (e : k ≡ byteOf b i 1
   pub is-joined : (k ≡ 0 → ⊥) → k ≤ 3 → (k ≡ 3 → ⊥)
       → (let ts = conditionsOf g (conditionsIn b (forest b (i + 1) (s - 1))) in if (eqb k 1) (andAll ts) (orAll ts)) ≡ conditionOf g (conditionFrom b i (forest b (i + 1) (s - 1)))
   unfolding conditionOf conditionAt
-  is-joined z h r = rw (← e) (on (eqb k 1) refl)
+  is-joined z h r = on (eqb k 1) refl
     where
-      cs : Conditions
-      cs = conditionsIn b (forest b (i + 1) (s - 1))
+      ts : List Truth
+      ts = conditionsOf g (conditionsIn b (forest b (i + 1) (s - 1)))
 
-      on : (t : Bool) → eqb k 1 ≡ t → if t (andAll (conditionsOf g cs)) (orAll (conditionsOf g cs)) ≡ conditionOf g (if t (all cs) (if (eqb k 2) (any cs) (if (eqb k 3) (notAt b i cs) (compares (comparisonAt b i)))))
-      on true q = refl
-      on false q = let p : k ≡ 2 = omega (arith, eqb-false k 1 q) in rw p
+      on : (t : Bool) → eqb k 1 ≡ t → if t (andAll ts) (orAll ts) ≡ conditionOf g (conditionFrom b i (forest b (i + 1) (s - 1)))
+      on true q = let p : byteOf b i 1 ≡ 1 = sym e ∙ eqb-true k 1 q in rw p
+      on false q = let p : byteOf b i 1 ≡ 2 = omega (arith, e, eqb-false k 1 q) in rw p
 
-  pub is-comparison : {t : Truth} → (k ≡ 1 → ⊥) → (k ≡ 2 → ⊥) → (k ≡ 3 → ⊥) → t ≡ comparisonOf g (comparisonAt b i)
+  pub is-comparison : {t : Truth} → (k ≡ 1 → ⊥) → (k ≡ 2 → ⊥) → (k ≡ 3 → ⊥) → k ≤ 20 → t ≡ comparisonOf g (comparisonAt b i)
       → t ≡ conditionOf g (conditionFrom b i (forest b (i + 1) (s - 1)))
   unfolding conditionOf conditionAt
-  is-comparison p q r et = rw (← e, ne-eqb k 1 p, ne-eqb k 2 q, ne-eqb k 3 r) et
+  is-comparison p q r l et = rw (← e, ne-eqb k 1 p, ne-eqb k 2 q, ne-eqb k 3 r, le-ltb 20 k l) et
+
+  -- of two values, where record i ends at i + s
+  is-weighing : 20 < k → conditionFrom b i (forest b (i + 1) (s - 1)) ≡ weighsAt b i (exprsIn b (forest b (i + 1) (i + s - i - 1)))
+  unfolding conditionAt
+  is-weighing h =
+      let z : i + s - i - 1 ≡ s - 1 = omega arith in
+      rw (z, ← e, ne-eqb k 1 (λ w. omega (arith, h, w)), ne-eqb k 2 (λ w. omega (arith, h, w)), ne-eqb k 3 (λ w. omega (arith, h, w)), lt-ltb 20 k h) refl
+
+  pub weighs-few : {second : ℕ} {t : Truth} → 20 < k → 0 < s → second ≡ secondIn b i (i + s) → second ≡ i + s → t ≡ comparisonOf g (comparisonAt b i)
+      → t ≡ conditionOf g (conditionFrom b i (forest b (i + 1) (s - 1)))
+  unfolding conditionOf
+  weighs-few h p d z et = rw (is-weighing h, few b i (i + s) (omega arith) (weighs (functionOf (choiceAt b i - 20))) (compares (comparisonAt b i)) (sym d ∙ z)) et
+
+  pub weighs-two : {t : Truth} → 20 < k → t ≡ conditionOf g (weighsAt b i (exprsIn b (forest b (i + 1) (i + s - i - 1))))
+      → t ≡ conditionOf g (conditionFrom b i (forest b (i + 1) (s - 1)))
+  weighs-two h et = rw (is-weighing h) et
 
   pub not-none : {t : Truth} → k ≡ 3 → s ≡ 1 → t ≡ comparisonOf g (comparisonAt b i)
       → t ≡ conditionOf g (conditionFrom b i (forest b (i + 1) (s - 1)))

@@ -13,19 +13,7 @@ ghost use Rattle.record.specs.Choose.{if};
 ghost use Rattle.record.specs.Forest.{forest};
 ghost use Rattle.meaning.specs.Logic.{isTrue, isFalse, andOf, orOf};
 ghost use Rattle.meaning.specs.Meaning.{conjunctionOf, sectionOf, targetOf, comparisonOf, conditionOf, whenOf, ruleOf, overRules, combine, ruleChildren};
-ghost use Rattle.meaning.specs.Reading.{keyAt, testAt, matchAt, comparisonAt, conjunctionAt, sectionAt, targetIn, conditionFrom, whenIn, effectOf, ruleAt, rulesIn, rulesBy, bagsOf};
-
-// The key of the match or comparison at record i: bytes 4 to 7, without must-be-present.
-fn key_at(book: &[u8], i: usize) -> u32
-    requires { ⌜ (i + 1) * size ≤ length (now book) ⌝ }
-    ensures { λ r. ⌜ r ≡ keyAt (now (book .entry)) i ⌝ }
-{
-    let word = record::big4(book, i * record::SIZE + 4);
-    if record::byte(book, i, 5) < 128 {
-        return word;
-    }
-    word - 8388608
-}
+ghost use Rattle.meaning.specs.Reading.{choiceAt, testAt, matchAt, comparisonAt, conjunctionAt, sectionAt, targetIn, conditionFrom, whenIn, effectOf, ruleAt, rulesIn, rulesBy, bagsOf};
 
 // Record i as a test by function f.
 fn test_at(book: &[u8], i: usize, f: usize) -> Test
@@ -35,7 +23,7 @@ fn test_at(book: &[u8], i: usize, f: usize) -> Test
     Test {
         function: value::function_of(f),
         must: 127 < record::byte(book, i, 5),
-        key: key_at(book, i),
+        key: weigh::key_at(book, i),
         literal: record::big8(book, i * record::SIZE + 8),
     }
 }
@@ -146,7 +134,7 @@ pub fn target(book: &[u8], request: &[u8], from: usize, count: usize) -> Truth
     acc
 }
 
-// What the request says to the comparison at record i.
+// What the request says to the comparison of a literal with an attribute at record i.
 fn compared(book: &[u8], request: &[u8], i: usize) -> Truth
     requires { ⌜ (i + 1) * size ≤ length (now book) ⌝ }
     ensures { λ r. ⌜ r ≡ comparisonOf (bagsOf (now (request .entry))) (comparisonAt (now (book .entry)) i) ⌝ }
@@ -185,24 +173,40 @@ fn is_sure(all: bool, t: Truth) -> bool
     }
 }
 
-// The condition at record i: 1 and, 2 or, 3 not, else a comparison. It calls itself on its parts, and the span falls at each call.
+// The comparison at record i, of a choice above 20, of the two values below it; without two it is one of a literal with an attribute.
+fn weighed(book: &[u8], request: &[u8], i: usize, s: usize) -> Truth
+    requires { ⌜ (0 < s) × ((i + s) * size ≤ length (now book)) × (20 < choiceAt (now book) i) ⌝ }
+    ensures { λ r. ⌜ r ≡ conditionOf (bagsOf (now (request .entry))) (conditionFrom (now (book .entry)) i (forest (now (book .entry)) (i + 1) (s - 1))) ⌝ }
+{
+    let stop = i + s;
+    let second = weigh::second_in(book, i, stop);
+    if second == stop {
+        return compared(book, request, i);
+    }
+    weigh::compared(book, request, i, second, stop)
+}
+
+// The condition at record i: 1 and, 2 or, 3 not, else a comparison, above 20 one of two values. It calls itself on its parts, and the span falls at each call.
 pub fn condition(book: &[u8], request: &[u8], i: usize, s: usize) -> Truth
     requires { ⌜ (0 < s) × ((i + s) * size ≤ length (now book)) ⌝ }
     ensures { λ r. ⌜ r ≡ conditionOf (bagsOf (now (request .entry))) (conditionFrom (now (book .entry)) i (forest (now (book .entry)) (i + 1) (s - 1))) ⌝ }
 {
     let choice = record::byte(book, i, 1);
+    if 20 < choice {
+        return weighed(book, request, i, s);
+    }
+    if 3 < choice {
+        return compared(book, request, i);
+    }
+    if choice == 0 {
+        return compared(book, request, i);
+    }
     if choice == 3 {
         if s == 1 {
             return compared(book, request, i);
         }
         let part = record::span_in(book, i + 1, s - 1);
         return meaning::not3(condition(book, request, i + 1, part));
-    }
-    if choice == 0 {
-        return compared(book, request, i);
-    }
-    if 3 < choice {
-        return compared(book, request, i);
     }
     let all = choice == 1;
     let mut at = i + 1;

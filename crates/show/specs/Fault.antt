@@ -1,15 +1,17 @@
 -- What is wrong with a refused record, as a number for each phrase that says it. Assumes nothing.
-use Prim.Native.Nat.{ℕ}
+use Prim.Native.Nat.{ℕ, _+_, _*_}
+use mathlib.Core.Bool.{Bool}
 use mathlib.Core.List.{List}
 use lib.Dec.{eqb, ltb}
-use Rattle.record.specs.Choose.{if, among}
-use Rattle.record.specs.Bytes.{byteOf, spanOf}
-use Rattle.fields.specs.Fields.{kindAt, typeAt, categoryOk}
+use lib.ListN.{length}
+use Rattle.record.specs.Choose.{if, either, among}
+use Rattle.record.specs.Bytes.{size, byteOf, spanOf, bigOf}
+use Rattle.fields.specs.Fields.{kindAt, typeOf, typeAt, categoryOk}
 use Rattle.fields.specs.declared.Kind.{Kind}
-use Rattle.fields.specs.declared.Kind.the-variants.{PolicySet, Policy, Rule, Section, Conjunction, Match, Logic, Not, Comparison, Obligation, Nothing}
+use Rattle.fields.specs.declared.Kind.the-variants.{PolicySet, Policy, Rule, Section, Conjunction, Match, Logic, Not, Comparison, Weighing, Obligation, Literal, Attribute, Operator, Nothing}
 use Rattle.fields.specs.declared.Sort.{Sort}
 use Rattle.fields.specs.declared.Sort.the-variants.{Integer, Name, Double, Other}
-use Rattle.placement.specs.Place.{parentOf}
+use Rattle.placement.specs.Place.{endOf, parentOf, operandsAt}
 
 -- field rules: kind, choice, span
 abbrev pub noKind : ℕ
@@ -82,9 +84,25 @@ afterObligation = 21
 abbrev pub tooDeep : ℕ
 tooDeep = 22
 
+-- values: the type of a literal, bytes that a literal or an attribute does not use, operands
+abbrev pub literalType : ℕ
+literalType = 23
+
+abbrev pub literalByte : ℕ
+literalByte = 24
+
+abbrev pub attributeByte : ℕ
+attributeByte = 25
+
+abbrev pub otherOperands : ℕ
+otherOperands = 26
+
+abbrev pub otherPair : ℕ
+otherPair = 27
+
 -- kind and choice, where the two are in no row of the table
 unfoldable pub kindFault : ℕ → ℕ
-kindFault k = if (among 1 8 k) noChoice noKind
+kindFault k = if (either (eqb k 10) (among 1 8 k)) noChoice noKind
 
 -- a record that uses no byte but kind, choice and span, the span being at least s
 unfoldable pub plainFault : ℕ → ℕ → ℕ
@@ -107,6 +125,26 @@ valueFault Other = noType
 unfoldable pub comparesFault : ℕ → ℕ → Sort → ℕ
 comparesFault span c t = categoryFault c (if (eqb span 1) (valueFault t) somethingBelow)
 
+-- a literal, by the bytes that it does not use and its type: an integer or a name has no other fault
+abbrev pub literalValueFault : Sort → ℕ
+literalValueFault Integer = 0
+literalValueFault Name = 0
+literalValueFault Double = notFinite
+literalValueFault Other = literalType
+
+unfoldable pub literalFault : ℕ → ℕ → Sort → ℕ
+literalFault span unused t = if (eqb span 1) (if (eqb unused 0) (literalValueFault t) literalByte) somethingBelow
+
+-- an attribute, by its type
+abbrev pub attributeValueFault : Sort → ℕ
+attributeValueFault Integer = attributeByte
+attributeValueFault Name = attributeByte
+attributeValueFault Double = attributeByte
+attributeValueFault Other = noType
+
+unfoldable pub attributeFault : ℕ → ℕ → Sort → ℕ
+attributeFault span c t = categoryFault c (if (eqb span 1) (attributeValueFault t) somethingBelow)
+
 -- a record that breaks a field rule, by what it is
 abbrev pub fieldFault : List ℕ → ℕ → Kind → ℕ
 fieldFault b i PolicySet = plainFault (spanOf b i) 1
@@ -118,7 +156,11 @@ fieldFault b i Match = comparesFault (spanOf b i) (byteOf b i 4) (typeAt b i)
 fieldFault b i Logic = plainFault (spanOf b i) 1
 fieldFault b i Not = plainFault (spanOf b i) 2
 fieldFault b i Comparison = comparesFault (spanOf b i) (byteOf b i 4) (typeAt b i)
+fieldFault b i Weighing = plainFault (spanOf b i) 1
 fieldFault b i Obligation = if (eqb (spanOf b i) 1) obligationByte somethingBelow
+fieldFault b i Literal = literalFault (spanOf b i) (byteOf b i 4 + bigOf b (i * size + 6) 2) (typeOf (byteOf b i 5))
+fieldFault b i Attribute = attributeFault (spanOf b i) (byteOf b i 4) (typeAt b i)
+fieldFault b i Operator = plainFault (spanOf b i) 1
 fieldFault b i Nothing = kindFault (byteOf b i 0)
 
 -- a record that may not stand below a parent whose kind is p: the parent takes no such record, or takes it at another place
@@ -135,8 +177,25 @@ childFault p Match = if (eqb p 5) otherCategory notTaken
 childFault p Logic = conditionFault p
 childFault p Not = conditionFault p
 childFault p Comparison = conditionFault p
+childFault p Weighing = conditionFault p
 childFault p Obligation = notTaken
+childFault p Literal = notTaken
+childFault p Attribute = notTaken
+childFault p Operator = notTaken
 childFault p Nothing = notTaken
+
+-- a record that has not the operands that it wants, by its kind: 7, a comparison of two values, or an operator
+unfoldable pub operandsFault : ℕ → ℕ
+operandsFault kind = if (eqb kind 7) otherPair otherOperands
+
+-- record i has the operands that it wants, which are looked for where all that it covers is there
+unfoldable pub hasOperands : List ℕ → ℕ → Bool
+hasOperands b i = either (eqb (spanOf b i) 0) (either (ltb (length b) (endOf b i * size)) (operandsAt b i))
+
+-- record i, which its parent does not allow at that place, or which has not its operands
+unfoldable pub placeFault : List ℕ → ℕ → ℕ
+placeFault b i =
+    if (hasOperands b i) (childFault (byteOf b (parentOf b i) 0) (kindAt b i)) (operandsFault (byteOf b i 0))
 
 -- record i, by the number that refuses it: 5, or 9 to 12
 unfoldable pub faultOf : List ℕ → ℕ → ℕ → ℕ
@@ -144,4 +203,4 @@ faultOf b i number =
     if (eqb number 5) (fieldFault b i (kindAt b i))
     (if (eqb number 9) (if (ltb 2 (byteOf b i 0)) noTop notAll)
     (if (eqb number 10) pastEnd
-    (if (eqb number 11) (childFault (byteOf b (parentOf b i) 0) (kindAt b i)) tooDeep)))
+    (if (eqb number 11) (placeFault b i) tooDeep)))

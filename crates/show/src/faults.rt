@@ -9,7 +9,8 @@ ghost use mathlib.Core.Path.{_≡_};
 ghost use Prim.Native.Nat.{_+_, _*_, _≤_};
 ghost use lib.ListN.{length};
 ghost use Rattle.record.specs.Bytes.{size};
-ghost use Rattle.show.specs.Fault.{kindFault, plainFault, categoryFault, sectionFault, valueFault, comparesFault, fieldFault, conditionFault, childFault, faultOf};
+ghost use Rattle.fields.specs.declared.Kind.the-variants.{Literal};
+ghost use Rattle.show.specs.Fault.{kindFault, plainFault, categoryFault, sectionFault, valueFault, comparesFault, literalValueFault, literalFault, attributeValueFault, attributeFault, fieldFault, conditionFault, childFault, operandsFault, hasOperands, placeFault, faultOf};
 ghost use Rattle.show.specs.Written.{Inside};
 
 // Field rules: kind, choice, span; category, type, value, function; bytes that a plain record, a section, an obligation does not use.
@@ -58,12 +59,23 @@ const AFTER_OBLIGATION: usize = 21;
 
 const TOO_DEEP: usize = 22;
 
+// Values: the type of a literal, bytes that a literal or an attribute does not use, the operands of an operator and of a comparison.
+const LITERAL_TYPE: usize = 23;
+
+const LITERAL_BYTE: usize = 24;
+
+const ATTRIBUTE_BYTE: usize = 25;
+
+const OTHER_OPERANDS: usize = 26;
+
+const OTHER_PAIR: usize = 27;
+
 // A fault in words: the phrases stand in the order of the numbers above.
 pub fn fault_words(fault: usize, l: Line) -> Line
     ensures { λ r. ⌜ Inside r ⌝ }
 {
     l.phrase(
-        b"|byte 0 is no kind, 1 to 8\
+        b"|byte 0 is no kind, 1 to 8 or 10\
           |byte 1 is no choice of its kind\
           |its span, bytes 2 and 3, is 0\
           |its span is below 2, and something must stand below it\
@@ -84,7 +96,12 @@ pub fn fault_words(fault: usize, l: Line) -> Line
           |a rule has at most one condition\
           |not has exactly one condition below it\
           |obligations stand last\
-          |it is nested deeper than 16",
+          |it is nested deeper than 16\
+          |byte 5 is no type, 1 to 3\
+          |a byte that its kind does not use, of 4, 6 and 7, is not zero\
+          |a byte that its kind does not use, of 8 to 15, is not zero\
+          |an operator has exactly two values of its type below it\
+          |exactly two values of one type are compared, names by equal alone",
         fault,
     )
 }
@@ -93,6 +110,9 @@ pub fn fault_words(fault: usize, l: Line) -> Line
 fn kind_fault(k: usize) -> usize
     ensures { λ r. ⌜ r ≡ kindFault k ⌝ }
 {
+    if k == 10 {
+        return NO_CHOICE;
+    }
     if k < 1 {
         return NO_KIND;
     }
@@ -145,6 +165,61 @@ fn compares_fault(span: usize, category: usize, t: Sort) -> usize
     category_fault(category, choose(span == 1, value_fault(t), SOMETHING_BELOW))
 }
 
+// .. of a literal, by its type.
+fn literal_value_fault(t: Sort) -> usize
+    ensures { λ r. ⌜ r ≡ literalValueFault t ⌝ }
+{
+    match t {
+        Sort::Integer => 0,
+        Sort::Name => 0,
+        Sort::Double => NOT_FINITE,
+        Sort::Other => LITERAL_TYPE,
+    }
+}
+
+// .. of a literal; `unused` is 0 where the bytes that it does not use are.
+fn literal_fault(span: usize, unused: usize, t: Sort) -> usize
+    ensures { λ r. ⌜ r ≡ literalFault span unused t ⌝ }
+{
+    if span != 1 {
+        return SOMETHING_BELOW;
+    }
+    choose(unused == 0, literal_value_fault(t), LITERAL_BYTE)
+}
+
+// .. of record i, a literal.
+fn literal_at(book: &[u8], i: usize) -> usize
+    requires { ⌜ (i + 1) * size ≤ length (now book) ⌝ }
+    ensures { λ r. ⌜ r ≡ fieldFault (now (book .entry)) i Literal ⌝ }
+{
+    let rest = record::big2(book, i * record::SIZE + 6) as usize;
+    let unused = record::byte(book, i, 4) + rest;
+    let t = fields::type_of(record::byte(book, i, 5));
+    literal_fault(record::span(book, i), unused, t)
+}
+
+// .. of an attribute, by its type.
+fn attribute_value_fault(t: Sort) -> usize
+    ensures { λ r. ⌜ r ≡ attributeValueFault t ⌝ }
+{
+    match t {
+        Sort::Integer => ATTRIBUTE_BYTE,
+        Sort::Name => ATTRIBUTE_BYTE,
+        Sort::Double => ATTRIBUTE_BYTE,
+        Sort::Other => NO_TYPE,
+    }
+}
+
+// .. of an attribute.
+fn attribute_fault(span: usize, category: usize, t: Sort) -> usize
+    ensures { λ r. ⌜ r ≡ attributeFault span category t ⌝ }
+{
+    category_fault(
+        category,
+        choose(span == 1, attribute_value_fault(t), SOMETHING_BELOW),
+    )
+}
+
 // .. of record i of kind k, which breaks a field rule.
 fn field_fault(book: &[u8], i: usize, k: Kind) -> usize
     requires { ⌜ (i + 1) * size ≤ length (now book) ⌝ }
@@ -163,7 +238,11 @@ fn field_fault(book: &[u8], i: usize, k: Kind) -> usize
         Kind::Logic => plain_fault(span, 1),
         Kind::Not => plain_fault(span, 2),
         Kind::Comparison => compares_fault(span, category, t),
+        Kind::Weighing => plain_fault(span, 1),
         Kind::Obligation => choose(span == 1, OBLIGATION_BYTE, SOMETHING_BELOW),
+        Kind::Literal => literal_at(book, i),
+        Kind::Attribute => attribute_fault(span, category, t),
+        Kind::Operator => plain_fault(span, 1),
         Kind::Nothing => kind_fault(record::byte(book, i, 0)),
     }
 }
@@ -192,20 +271,58 @@ fn child_fault(p: usize, k: Kind) -> usize
         Kind::Logic => condition_fault(p),
         Kind::Not => condition_fault(p),
         Kind::Comparison => condition_fault(p),
+        Kind::Weighing => condition_fault(p),
         Kind::Obligation => NOT_TAKEN,
+        Kind::Literal => NOT_TAKEN,
+        Kind::Attribute => NOT_TAKEN,
+        Kind::Operator => NOT_TAKEN,
         Kind::Nothing => NOT_TAKEN,
     }
 }
 
-// The fault of record i, by the number that refuses it: 5 is a field rule, 9 is line 1's, 10 is the parent's end, 11 is what the parent allows, 12 is the
-// depth.
+// .. of a record of this kind that has not the operands that it wants.
+fn operands_fault(kind: usize) -> usize
+    ensures { λ r. ⌜ r ≡ operandsFault kind ⌝ }
+{
+    choose(kind == 7, OTHER_PAIR, OTHER_OPERANDS)
+}
+
+// Whether record i has the operands that it wants. They are looked for where all that it covers is there.
+fn has_operands(book: &[u8], i: usize) -> bool
+    requires { ⌜ (i + 1) * size ≤ length (now book) ⌝ }
+    ensures { λ r. ⌜ r ≡ hasOperands (now (book .entry)) i ⌝ }
+{
+    let s = record::span(book, i);
+    if s == 0 {
+        return true;
+    }
+    let end = i + s;
+    if book.len() < end * record::SIZE {
+        return true;
+    }
+    placement::operands_ok(book, i, end)
+}
+
+// The fault of record i, which its parent does not allow at that place, or which has not its operands.
+fn place_fault(book: &[u8], i: usize) -> usize
+    requires { ⌜ (i + 1) * size ≤ length (now book) ⌝ }
+    ensures { λ r. ⌜ r ≡ placeFault (now (book .entry)) i ⌝ }
+{
+    if !has_operands(book, i) {
+        return operands_fault(record::byte(book, i, 0));
+    }
+    let p = record::byte(book, parent(book, i), 0);
+    child_fault(p, fields::kind_at(book, i))
+}
+
+// The fault of record i, by the number that refuses it: 5 is a field rule, 9 is line 1's, 10 is the parent's end, 11 is what the parent allows, or the
+// operands, 12 is the depth.
 pub fn fault(book: &[u8], i: usize, number: u8) -> usize
     requires { ⌜ (i + 1) * size ≤ length (now book) ⌝ }
     ensures { λ r. ⌜ r ≡ faultOf (now (book .entry)) i number ⌝ }
 {
-    let k = fields::kind_at(book, i);
     if number == 5 {
-        return field_fault(book, i, k);
+        return field_fault(book, i, fields::kind_at(book, i));
     }
     if number == 9 {
         return choose(2 < record::byte(book, i, 0), NO_TOP, NOT_ALL);
@@ -214,7 +331,7 @@ pub fn fault(book: &[u8], i: usize, number: u8) -> usize
         return PAST_END;
     }
     if number == 11 {
-        return child_fault(record::byte(book, parent(book, i), 0), k);
+        return place_fault(book, i);
     }
     TOO_DEEP
 }

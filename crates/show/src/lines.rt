@@ -3,12 +3,16 @@ use crate::phrases::start;
 use crate::phrases::stop;
 ghost use mathlib.Core.Path.{_≡_};
 ghost use mathlib.Core.List.{[], _∷_};
+ghost use Prim.Native.Nat.{_<_};
 ghost use lib.ListN.{replicate};
 ghost use Rattle.outline.specs.Outline.{decimalOf, integerOf, doubleOf, nameOf};
 ghost use Rattle.show.specs.Phrase.{phraseOf};
-ghost use Rattle.show.specs.Written.{width, Adds};
+ghost use Rattle.show.specs.Written.{width, Inside, Adds};
 
 const WIDTH: usize = 256;
+
+// What is longer than this is cut, so that dots and a line feed still find room.
+const MOST: usize = 250;
 
 // Its bytes, and how many of them are said; what finds no room is cut.
 pub struct Line {
@@ -95,5 +99,17 @@ impl Line {
         let mut bytes = self.bytes;
         let said = outline::name(&mut bytes, self.said, w);
         Line { bytes, said }
+    }
+
+    // The same, no longer than a line feed leaves room for: dots stand where something is cut.
+    pub fn shortened(self) -> Line
+        requires { ⌜ Inside self ⌝ }
+        ensures { λ r. ⌜ (r .said < width) × Inside r ⌝ }
+    {
+        if self.said < MOST {
+            return self;
+        }
+        let bytes = self.bytes;
+        Line { bytes, said: MOST }.words(b" ..")
     }
 }

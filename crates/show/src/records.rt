@@ -8,27 +8,65 @@ ghost use mathlib.Core.Path.{_≡_};
 ghost use Prim.Native.Nat.{_+_, _*_, _≤_};
 ghost use lib.ListN.{length};
 ghost use Rattle.record.specs.Bytes.{size};
-ghost use Rattle.show.specs.Outline.{sentenceOf};
+ghost use Rattle.record.specs.Forest.{spanIn};
+ghost use Rattle.show.specs.Outline.{conditionSentence, valueSentence, sentenceOf};
 ghost use Rattle.show.specs.Written.{Inside};
 
-// The kind of a condition, and the sentence of a comparison, which is one.
+// The kinds of a condition and of a value.
 const CONDITION: usize = 7;
 
+const VALUE: usize = 10;
+
+// The sentences of a comparison, of values, and of a comparison of two values; those of all other records are their kinds.
 const COMPARISON: usize = 9;
 
-// The number of record i's sentence: its kind, but that of a comparison, and 0, its bytes, where it breaks a field rule.
+const LITERAL: usize = 10;
+
+const ATTRIBUTE: usize = 11;
+
+const OPERATOR: usize = 12;
+
+const WEIGHING: usize = 13;
+
+// The number of a condition's sentence, by its choice.
+fn condition_sentence(choice: usize) -> usize
+    ensures { λ r. ⌜ r ≡ conditionSentence choice ⌝ }
+{
+    choose(
+        choice < 4,
+        CONDITION,
+        choose(choice < 20, COMPARISON, WEIGHING),
+    )
+}
+
+// The number of a value's sentence, by its choice.
+fn value_sentence(choice: usize) -> usize
+    ensures { λ r. ⌜ r ≡ valueSentence choice ⌝ }
+{
+    choose(
+        choice == 1,
+        LITERAL,
+        choose(choice == 2, ATTRIBUTE, OPERATOR),
+    )
+}
+
+// The number of record i's sentence: its kind, but by the choice of a condition or a value, and 0, its bytes, where it breaks a field rule.
 fn sentence(book: &[u8], i: usize) -> usize
     requires { ⌜ (i + 1) * size ≤ length (now book) ⌝ }
     ensures { λ r. ⌜ r ≡ sentenceOf (now (book .entry)) i ⌝ }
 {
     let kind = record::byte(book, i, 0);
+    let choice = record::byte(book, i, 1);
     if !fields::field_ok(book, i) {
         return 0;
     }
-    if kind != CONDITION {
-        return kind;
+    if kind == CONDITION {
+        return condition_sentence(choice);
     }
-    choose(record::byte(book, i, 1) < 4, CONDITION, COMPARISON)
+    if kind == VALUE {
+        return value_sentence(choice);
+    }
+    kind
 }
 
 // The bytes of record i in hexadecimal digits.
@@ -62,6 +100,83 @@ fn value(book: &[u8], i: usize, l: Line) -> Line
     }
 }
 
+// A value that stands by itself at record i: a literal, or an attribute.
+fn simple(book: &[u8], i: usize, l: Line) -> Line
+    requires { ⌜ ((i + 1) * size ≤ length (now book)) × Inside l ⌝ }
+    ensures { λ r. ⌜ Inside r ⌝ }
+{
+    if record::byte(book, i, 1) == 1 {
+        let typed = l.phrase(b"|integer |name |double ", record::byte(book, i, 5));
+        return value(book, i, typed);
+    }
+    let category = record::byte(book, i, 4);
+    let number = record::big2(book, i * record::SIZE + 6);
+    l.phrase(b"|subject |resource |action |environment ", category)
+        .decimal(number as usize)
+}
+
+// What stands between two values: an operator, or how they are compared.
+fn between(choice: usize, l: Line) -> Line
+    requires { ⌜ Inside l ⌝ }
+    ensures { λ r. ⌜ Inside r ⌝ }
+{
+    if choice < 20 {
+        return l.phrase(b"||| + | - | * | / | % | + ", choice);
+    }
+    l.phrase(
+        b"| is equal to | is greater than | is greater than or equal to | is less than | is less than or equal to ",
+        choice - 20,
+    )
+}
+
+// How many of `left` records record i covers: none where none is left.
+fn covered(book: &[u8], i: usize, left: usize) -> usize
+    requires { ⌜ (i + left) * size ≤ length (now book) ⌝ }
+    ensures { λ r. ⌜ (r ≡ spanIn (now (book .entry)) i left) × (r ≤ left) ⌝ }
+{
+    if left == 0 {
+        return 0;
+    }
+    record::span_in(book, i, left)
+}
+
+// The value at record i, which covers s records, or the comparison of two, as a person writes it: in brackets where it is a part of an operator, `inner`
+// being 1, and a question mark for what is none. It calls itself no deeper than `deep` says, since a refused book may nest without end.
+fn expression(book: &[u8], i: usize, s: usize, deep: usize, inner: usize, l: Line) -> Line
+    requires { ⌜ ((i + s) * size ≤ length (now book)) × Inside l ⌝ }
+    ensures { λ r. ⌜ Inside r ⌝ }
+{
+    if s == 0 {
+        return l.put(b'?');
+    }
+    let k = sentence(book, i);
+    if k < LITERAL {
+        return l.put(b'?');
+    }
+    if k < OPERATOR {
+        return simple(book, i, l);
+    }
+    if deep == 0 {
+        return l.put(b'?');
+    }
+    let n = covered(book, i + 1, s - 1);
+    let next = i + 1 + n;
+    let m = covered(book, next, s - 1 - n);
+    let within = choose(k == OPERATOR, 1, 0);
+    let first = expression(book, i + 1, n, deep - 1, within, l.phrase(b"|(", inner));
+    let second = between(record::byte(book, i, 1), first);
+    expression(book, next, m, deep - 1, within, second).phrase(b"|)", inner)
+}
+
+// The value or comparison at record i, with what it covers of the book; it may be longer than a line.
+fn whole(book: &[u8], i: usize, l: Line) -> Line
+    requires { ⌜ ((i + 1) * size ≤ length (now book)) × Inside l ⌝ }
+    ensures { λ r. ⌜ Inside r ⌝ }
+{
+    let s = covered(book, i, book.len() / record::SIZE - i);
+    expression(book, i, s, placement::MOST_DEPTH, 0, l).shortened()
+}
+
 // What a letter of a sentence stands for in record i: a capital for a part of the record, any other byte for itself.
 fn part(book: &[u8], i: usize, letter: u8, l: Line) -> Line
     requires { ⌜ ((i + 1) * size ≤ length (now book)) × Inside l ⌝ }
@@ -88,6 +203,7 @@ fn part(book: &[u8], i: usize, letter: u8, l: Line) -> Line
         b'N' => l.decimal(number as usize),
         b'T' => l.phrase(b"|integer|name|double", sort % 128),
         b'V' => value(book, i, l),
+        b'X' => whole(book, i, l),
         _ => l.put(letter),
     }
 }
@@ -122,7 +238,11 @@ pub fn record_words(book: &[u8], i: usize, l: Line) -> Line
           |match: T V is F C NM\
           |condition: L\
           |obligation N on E\
-          |condition: T V is F C NM",
+          |condition: T V is F C NM\
+          |value: T V\
+          |value: T C NM\
+          |value: X\
+          |condition: X",
         sentence(book, i),
         book,
         i,

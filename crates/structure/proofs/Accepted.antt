@@ -6,18 +6,21 @@ use Prim.Native.Nat.{ℕ, zero, suc, _+_, _-_, _≤_, _<_}
 use native.Mathlib.Omega.{arith}
 use lib.Dec.{ltb}
 use borrow.Author.Tests.{eqb-true, ltb-true, ltb-false}
+use Rattle.record.specs.Choose.{both}
 use Rattle.record.specs.Bytes.{byteOf, spanOf}
+use Rattle.record.proofs.Choose.{both-parts}
 use Rattle.fields.specs.Fields.{kindAt, fieldOk}
 use Rattle.fields.proofs.First.{by, first-reach-all}
-use Rattle.placement.specs.Place.{kindNumber, rankAt, standsOk, childRule, brokenAt, placeOk}
+use Rattle.placement.specs.Place.{kindNumber, rankAt, standsOk, operandsAt, childRule, brokenAt, placeOk}
 use Rattle.placement.specs.Walk.{Walk}
 use Rattle.grammar.specs.Row.{Row}
 use Rattle.placement.specs.Keeps.{Sized, Keeps}
 use Rattle.placement.proofs.Laws.{span-end, rule-is, rule-none, stands-parts, Passed, passed, bounds, kids, rest, top-walk}
-use Rattle.grammar.proofs.Rows.{row-none, row-then, row-child}
+use Rattle.grammar.proofs.Rows.{operandsOf, row-none, row-then, row-child}
 use Rattle.judge.proofs.Sound.{top-kept}
 use Rattle.structure.specs.Sound.{Parent, asParent, lineOne, soundAt}
 use Rattle.structure.proofs.Sound.{FirstChild, first-of, of-first, sound-none, rank-of}
+use Rattle.structure.proofs.Operands.{operands-same}
 
 -- line 1 keeps its rules, and what is below it is sound
 pub record SoundBelow (b : List ℕ) (n : ℕ) : Type 0 where
@@ -43,6 +46,10 @@ record Rowed (u : Parent) (e : ℕ) (b : List ℕ) (i end : ℕ) : Type 0 where
   pub due : ℕ
   pub row : Row b i end end (u .above) (u .number) (u .grand) (u .category) e last due
 
+wants-of : (b : List ℕ) (i : ℕ) → operandsAt b i ≡ true → operandsOf b i (kindAt b i) ≡ true
+unfolding operandsAt
+wants-of b i h = h
+
 row-more : (u : Parent) (e : ℕ) (b : List ℕ) (i left end : ℕ) → end ≡ i + left → FirstChild u e b i left → Rowed (asParent u b i) 0 b (i + 1) (i + spanOf b i)
     → Rowed u (rankAt b i) b (i + spanOf b i) end → Rowed u e b i end
 row-more u e b i left end q w below after =
@@ -51,7 +58,7 @@ row-more u e b i left end q w below after =
     let v = stands-parts (u .number) (kindAt b i) (byteOf b i 4) e (u .grand) (w .child .stands) in
     let row = row-child b (u .above) (u .number) (u .grand) (u .category) e {i = i} {e = end} {end = i + spanOf b i} {below = below .last} {due = below .due}
     (record { kind = refl; fields = w .fields }) (sym (span-end b i (spanOf b i) refl)) (omega arith) (omega arith)
-    (v .0) (v .1) (v .2) (w .child .deep) (below .row) in
+    (v .0) (v .1) (v .2) (wants-of b i (operands-same (asParent u b i) b i some (w .kids) ∙ w .operands)) (w .child .deep) (below .row) in
     record { last = after .last; due = _; row = row-then b (rw (rank-of b i) at row) (after .row) }
 
 rowF : (f : ℕ) (u : Parent) (e : ℕ) (b : List ℕ) (i left end : ℕ) → left ≤ f → end ≡ i + left → soundAt u e b i left ≡ true → Rowed u e b i end
@@ -84,15 +91,15 @@ below-kept b n w =
 
 -- the first child on the way of a walk
 module _ (b : List ℕ) {p i e d pn gc pc er : ℕ} (w : Walk b p i e d pn gc pc er) (l : i < e) (ok : placeOk b i ≡ true) where
-  broken-none : childRule (i + spanOf b i) e (d + 1) (standsOk pn (kindAt b i) (byteOf b i 4) er gc) ≡ 0
+  broken-none : childRule (i + spanOf b i) e (d + 1) (both (standsOk pn (kindAt b i) (byteOf b i 4) er gc) (operandsAt b i)) ≡ 0
   unfolding placeOk
-  broken-none = rule-is b w l refl refl (sym (span-end b i (spanOf b i) refl)) refl refl ∙ eqb-true (brokenAt b i) 0 ok
+  broken-none = rule-is b w l refl refl (sym (span-end b i (spanOf b i) refl)) refl (λ z. refl) refl ∙ eqb-true (brokenAt b i) 0 ok
 
-  stands-there : standsOk pn (kindAt b i) (byteOf b i 4) er gc ≡ true
-  stands-there = rule-none (i + spanOf b i) e (d + 1) _ broken-none .1
+  stands-there : (standsOk pn (kindAt b i) (byteOf b i 4) er gc ≡ true) × (operandsAt b i ≡ true)
+  stands-there = both-parts (standsOk pn (kindAt b i) (byteOf b i 4) er gc) (operandsAt b i) (rule-none (i + spanOf b i) e (d + 1) _ broken-none .1)
 
   passes : Passed b p i e d pn gc pc er (kindAt b i) (byteOf b i 4) (i + spanOf b i)
-  passes = passed b w l refl refl refl refl refl broken-none
+  passes = passed b w l refl refl refl refl (λ z. refl) refl broken-none
 
   rest-walk : Between (placeOk b) (i + 1) (i + spanOf b i) → Walk b p (i + spanOf b i) e d pn gc pc (rankAt b i)
   rest-walk all =
@@ -114,12 +121,15 @@ sound-more b p i e d pn gc pc er w h fs ok k r =
     let o = bounds b (passes b w h ok) in
     let n1 : i + spanOf b i - (i + 1) ≡ spanOf b i - 1 = omega arith in
     let n2 : e - (i + spanOf b i) ≡ e - i - spanOf b i = omega arith in
+    let below = rw n1 at k in
+    let there = stands-there b w h ok in
     of-first (parent d pn gc pc) er b i (e - i) (record {
       fields = fs;
       some = omega arith;
       within = omega arith;
-      child = record { stands = stands-there b w h ok; deep = o .2 };
-      kids = rw n1 at k;
+      child = record { stands = there .0; deep = o .2 };
+      operands = sym (operands-same _ b i (omega arith) below) ∙ there .1;
+      kids = below;
       rest = rw n2 at r;
     })
 

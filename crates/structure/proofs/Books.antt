@@ -18,8 +18,8 @@ use Rattle.fields.specs.declared.Kind.the-variants.{PolicySet, Policy}
 use Rattle.placement.specs.Place.{mostDepth, kindNumber, rankAt, standsOk}
 use Rattle.placement.proofs.Laws.{stands-parts, all-but}
 use Rattle.judge.proofs.Sound.{under-is}
-use Rattle.structure.specs.Subtrees.{recordAt, subtreesIn, subtreesOf}
-use Rattle.structure.specs.Sound.{Parent, asParent, lineOne, sound, soundAt}
+use Rattle.structure.specs.Subtrees.{Subtrees, recordAt, subtreesIn, subtreesOf}
+use Rattle.structure.specs.Sound.{Parent, asParent, lineOne, operandsIn, sound, soundAt}
 use Rattle.structure.specs.Claims.{PolicyIsBook, BookMayStand}
 use Rattle.structure.proofs.Records.{policy-kind, record-but-span, child-parts, parts-child, kind-same, later-byte}
 use Rattle.structure.proofs.Sound.{first-of, of-first, sound-parts, parts-sound, sound-none}
@@ -43,8 +43,8 @@ deep u e b none h l = omega arith
 deep u e b (node i kids rest) h l =
     let z = sound-parts u e (recordAt b i) (subtreesIn b kids) (subtreesIn b rest) h in
     let w = child-parts u e (recordAt b i) (z .1) in
-    let k = deep (asParent u (recordAt b i) 0) 0 b kids (z .2) (omega (arith, w .deep)) in
-    let r = deep u _ b rest (z .3) l in
+    let k = deep (asParent u (recordAt b i) 0) 0 b kids (z .3) (omega (arith, w .deep)) in
+    let r = deep u _ b rest (z .4) l in
     omega (arith, k, r)
 
 -- and they are sound wherever they are within it
@@ -57,9 +57,9 @@ move u a g e b (node i kids rest) q l h =
     let z = sound-parts u e r (subtreesIn b kids) (subtreesIn b rest) h in
     let w = child-parts u e r (z .1) in
     parts-sound (moved u a g) e r (subtreesIn b kids) (subtreesIn b rest) (z .0)
-    (parts-child (moved u a g) e r (record { stands = stands-under (u .number) (kindAt r 0) (byteOf r 0 4) e (u .grand) g q (w .stands); deep = omega arith }))
-    (move (asParent u r 0) (a + 1) (u .category) 0 b kids (λ x. refl) (omega arith) (z .2))
-    (move u a g (rankAt r 0) b rest q (omega arith) (z .3))
+    (parts-child (moved u a g) e r (record { stands = stands-under (u .number) (kindAt r 0) (byteOf r 0 4) e (u .grand) g q (w .stands); deep = omega arith })) (z .2)
+    (move (asParent u r 0) (a + 1) (u .category) 0 b kids (λ x. refl) (omega arith) (z .3))
+    (move u a g (rankAt r 0) b rest q (omega arith) (z .4))
 
 -- line 1 of a book, by the place where it stands
 line-at : (b : List ℕ) (i : ℕ) → lineOne (recordAt b i) ≡ record { above = 1; number = kindNumber (kindAt b i); category = byteOf b i 4; grand = byteOf b i 4 }
@@ -96,6 +96,11 @@ policy-stands k c e g a l =
     let o = le-leb (e + 0) 5 (omega arith) in
     ⊎-elim (λ (q : k ≡ PolicySet). rw (q, o) refl) (λ (q : k ≡ Policy). rw (q, o) refl) (policy-kind k a)
 
+-- and wants no operands
+policy-operands : (r : List ℕ) (kids : Subtrees) → among 1 2 (kindNumber (kindAt r 0)) ≡ true → operandsIn r kids ≡ true
+unfolding operandsIn
+policy-operands r kids a = ⊎-elim (λ (q : kindAt r 0 ≡ PolicySet). rw q refl) (λ (q : kindAt r 0 ≡ Policy). rw q refl) (policy-kind (kindAt r 0) a)
+
 pub book-may-stand : BookMayStand
 unfolding soundAt subtreesOf
 book-may-stand u e b i s set l x d =
@@ -110,6 +115,7 @@ book-may-stand u e b i s set l x d =
       some = omega arith;
       within = omega arith;
       child = record { stands = rw set (policy-stands (kindAt b i) (byteOf b i 4) e (u .grand) (w .kind) l); deep = omega arith };
+      operands = policy-operands (recordAt b i) _ (rw (kind-same (recordAt b i) 0 b i (record-but-span b i)) (w .kind));
       kids = rw span kids;
       rest = sound-none u (rankAt b i) b (i + spanOf b i) (s - spanOf b i) (omega arith);
     })

@@ -14,7 +14,7 @@ use Rattle.fields.specs.Fields.{kindOf, kindAt, typeOf, typeAt, finite, zeros, 
 use Rattle.placement.specs.Place.{holdsConditions, singleOf, rankAt, standsOk}
 use Rattle.judge.proofs.Examples.{nested}
 use Rattle.structure.specs.Subtrees.{recordCount, recordAt, subtreesIn, subtreesOf, bytesOf, withSpan, spanned, sliceOf}
-use Rattle.structure.specs.Sound.{lineOne, recordOk, childOk, sound, soundBook, soundAt}
+use Rattle.structure.specs.Sound.{lineOne, recordOk, childOk, operandsIn, sound, soundBook, soundAt}
 
 -- worked book A of document 01, as bytes
 a : List ℕ
@@ -38,7 +38,7 @@ judged =
     ∷ soundAt (lineOne (nested 1)) 5 denies 0 2 ∷ []
 
 computed : judged ≡ true ∷ false ∷ false ∷ true ∷ false ∷ true ∷ false ∷ true ∷ []
-unfolding bytes lines bookA a nested denies judged spanOf allBelow spanIn growF forest kindOf kindAt typeOf typeAt finite bigOf finiteOf zeros plainOk sectionOk comparesOk obligationOk fieldOk tab holdsConditions singleOf rankAt standsOk recordCount recordAt subtreesIn subtreesOf recordOk childOk sound soundBook soundAt sliceOf
+unfolding bytes lines bookA a nested denies judged spanOf allBelow spanIn growF forest kindOf kindAt typeOf typeAt finite bigOf finiteOf zeros plainOk sectionOk comparesOk obligationOk fieldOk tab holdsConditions singleOf rankAt standsOk recordCount recordAt subtreesIn subtreesOf recordOk childOk operandsIn sound soundBook soundAt sliceOf
 computed = refl
 
 -- book A with a wrong span on line 1, read, and written with its spans

@@ -1,6 +1,7 @@
 pub mod Records
 pub mod Subtrees
 pub mod Sound
+pub mod Operands
 pub mod Accepted
 pub mod Parts
 pub mod Books
@@ -8,4 +9,6 @@ pub mod Spanned
 pub mod Written
 pub mod Replaced
 pub mod ReadAlike
+mod Choices
+pub mod Typed
 mod Examples

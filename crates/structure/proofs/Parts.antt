@@ -55,6 +55,7 @@ children-sound u b end {e} {i} (child w x) =
       some = s;
       within = omega arith;
       child = f .child;
+      operands = f .operands;
       kids = f .kids;
       rest = rw q at (children-sound u b end x);
     })
@@ -69,6 +70,7 @@ first-alone u e b i left w =
         some = some;
         within = omega arith;
         child = w .child;
+        operands = w .operands;
         kids = w .kids;
         rest = sound-none u (rankAt b i) b (i + spanOf b i) (spanOf b i - spanOf b i) (omega arith);
       });

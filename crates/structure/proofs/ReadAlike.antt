@@ -2,14 +2,15 @@
 use mathlib.Core.Path.{_≡_, refl, sym, ap, _∙_}
 use mathlib.Core.Bool.{Bool}
 use mathlib.Core.List.{List}
-use Prim.Native.Nat.{ℕ, _-_, _≤_, _<_}
+use Prim.Native.Nat.{ℕ, _+_, _-_, _*_, _≤_, _<_}
 use native.Mathlib.Omega.{arith}
-use lib.Dec.{eqb}
+use lib.Dec.{eqb, ltb}
 use Rattle.record.specs.Choose.{if, either}
-use Rattle.record.specs.Bytes.{size, byteOf}
+use Rattle.record.specs.Bytes.{size, byteOf, bigOf}
 use Rattle.record.specs.Forest.{Forest, none, node, forest}
-use Rattle.meaning.specs.Policy.{last, Conditions, noPart, part, compares, all, any, whenever, Trees}
-use Rattle.meaning.specs.Reading.{isKind, keyAt, testAt, matchAt, comparisonAt, rowOf, childrenAt, conjunctionAt, sectionAt, targetIn, notAt, conditionAt, conditionsIn, whenIn, ruleAt, rulesIn, obligationAt, obligationsIn, treeAt, treesIn}
+use Rattle.value.specs.Value.{functionOf}
+use Rattle.meaning.specs.Policy.{last, Expr, attribute, operate, Conditions, noPart, part, compares, weighs, all, any, whenever, Trees}
+use Rattle.meaning.specs.Reading.{isKind, keyAt, testAt, matchAt, comparisonAt, rowOf, childrenAt, conjunctionAt, sectionAt, targetIn, notAt, ofTwo, operatorOf, exprAt, exprsIn, weighsAt, conditionAt, conditionsIn, whenIn, ruleAt, rulesIn, obligationAt, obligationsIn, treeAt, treesIn}
 use Rattle.structure.specs.Subtrees.{Subtrees, noSubtree, subtree, recordAt, subtreesIn, subtreesOf, SameButSpan}
 use Rattle.structure.specs.ReadAlike.{ReadAlike, SameIsReadAlike}
 use Rattle.structure.proofs.Records.{kind-byte, choice-byte, later-byte, big-same, record-bytes}
@@ -18,6 +19,10 @@ use Rattle.structure.proofs.Subtrees.{subtrees-same}
 -- a choice by the same test between the same things
 if-same : {A : Type 0} (p q : Bool) (x y v w : A) → p ≡ q → x ≡ v → y ≡ w → if p x y ≡ if q v w
 if-same p q x y v w e f g = rw (e, f, g) refl
+
+-- the same of the same two values
+two-same : {A : Type 0} (f g : Expr → Expr → A) (x y : A) (es ds : List Expr) → f ≡ g → x ≡ y → es ≡ ds → ofTwo f x es ≡ ofTwo g y ds
+two-same f g x y es ds p q e = rw (p, q, e) refl
 
 module _ (b c : List ℕ) where
   -- two forests of one shape, whose records differ in nothing but their spans
@@ -33,11 +38,24 @@ module _ (b c : List ℕ) where
     choice-same : byteOf b i 1 ≡ byteOf c j 1
     choice-same = choice-byte b i c j h
 
-    test-same : (f : ℕ) → testAt b i f ≡ testAt c j f
-    unfolding testAt keyAt
-    test-same f =
+    choice-is : (k : ℕ) → eqb (byteOf b i 1) k ≡ eqb (byteOf c j 1) k
+    choice-is k = ap (λ (x : ℕ). eqb x k) choice-same
+
+    type-byte : byteOf b i 5 ≡ byteOf c j 5
+    type-byte = later-byte b i c j h 5 (omega arith) (omega arith)
+
+    value-same : bigOf b (i * size + 8) 8 ≡ bigOf c (j * size + 8) 8
+    value-same = big-same b i c j h 8 8 (omega arith) (omega arith)
+
+    key-same : keyAt b i ≡ keyAt c j
+    unfolding keyAt
+    key-same =
         let x : (k : ℕ) → 4 ≤ k → k < size → byteOf b i k ≡ byteOf c j k = later-byte b i c j h in
-        rw (x 4 (omega arith) (omega arith), x 5 (omega arith) (omega arith), x 6 (omega arith) (omega arith), x 7 (omega arith) (omega arith), big-same b i c j h 8 8 (omega arith) (omega arith)) refl
+        rw (x 4 (omega arith) (omega arith), type-byte, x 6 (omega arith) (omega arith), x 7 (omega arith) (omega arith)) refl
+
+    test-same : (f : ℕ) → testAt b i f ≡ testAt c j f
+    unfolding testAt
+    test-same f = rw (type-byte, key-same, value-same) refl
 
     match-same : matchAt b i ≡ matchAt c j
     unfolding matchAt
@@ -51,13 +69,23 @@ module _ (b c : List ℕ) where
     not-same noPart = ap compares comparison-same
     not-same (part x xs) = refl
 
-    condition-same : (cs ds : Conditions) → cs ≡ ds → conditionAt b i cs ≡ conditionAt c j ds
+    expr-same : (es ds : List Expr) → es ≡ ds → exprAt b i es ≡ exprAt c j ds
+    unfolding exprAt
+    expr-same es ds e =
+        if-same _ _ _ _ _ _ (choice-is 1) (rw (type-byte, value-same) refl)
+        (if-same _ _ _ _ _ _ (choice-is 2) (ap attribute key-same)
+        (two-same _ _ _ _ es ds (ap (λ (x : ℕ). operate (operatorOf x)) choice-same) (rw (choice-same, value-same) refl) e))
+
+    weighs-same : (es ds : List Expr) → es ≡ ds → weighsAt b i es ≡ weighsAt c j ds
+    weighs-same es ds e = two-same _ _ _ _ es ds (ap (λ (x : ℕ). weighs (functionOf (x - 20))) choice-same) (ap compares comparison-same) e
+
+    condition-same : (cs ds : Conditions) (es fs : List Expr) → cs ≡ ds → es ≡ fs → conditionAt b i cs es ≡ conditionAt c j ds fs
     unfolding conditionAt
-    condition-same cs ds e =
-        let choice : (k : ℕ) → eqb (byteOf b i 1) k ≡ eqb (byteOf c j 1) k = λ k. ap (λ (x : ℕ). eqb x k) choice-same in
-        if-same _ _ _ _ _ _ (choice 1) (ap all e)
-        (if-same _ _ _ _ _ _ (choice 2) (ap any e)
-        (if-same _ _ _ _ _ _ (choice 3) (ap (notAt b i) e ∙ not-same ds) (ap compares comparison-same)))
+    condition-same cs ds es fs e v =
+        if-same _ _ _ _ _ _ (choice-is 1) (ap all e)
+        (if-same _ _ _ _ _ _ (choice-is 2) (ap any e)
+        (if-same _ _ _ _ _ _ (choice-is 3) (ap (notAt b i) e ∙ not-same ds)
+        (if-same _ _ _ _ _ _ (ap (λ (x : ℕ). ltb 20 x) choice-same) (weighs-same es fs v) (ap compares comparison-same))))
 
     obligation-same : obligationAt b i ≡ obligationAt c j
     obligation-same = rw (choice-same, big-same b i c j h 6 2 (omega arith) (omega arith)) refl
@@ -89,16 +117,21 @@ module _ (b c : List ℕ) where
   target-same (nodes {i = i} {j = j} {below = v} {below′ = w} h p q) =
       if-same _ _ _ _ _ _ (kind-is i j h 4) (rw (section-same i j v w h p, target-same q) refl) refl
 
+  values-same : {x y : Forest} → AlikeForests x y → exprsIn b x ≡ exprsIn c y
+  unfolding exprsIn
+  values-same nones = refl
+  values-same (nodes {i = i} {j = j} h p q) = rw (expr-same i j h _ _ (values-same p), values-same q) refl
+
   conditions-same : {x y : Forest} → AlikeForests x y → conditionsIn b x ≡ conditionsIn c y
   unfolding conditionsIn
   conditions-same nones = refl
-  conditions-same (nodes {i = i} {j = j} h p q) = rw (condition-same i j h _ _ (conditions-same p), conditions-same q) refl
+  conditions-same (nodes {i = i} {j = j} h p q) = rw (condition-same i j h _ _ _ _ (conditions-same p) (values-same p), conditions-same q) refl
 
   when-same : {x y : Forest} → AlikeForests x y → whenIn b x ≡ whenIn c y
   unfolding whenIn
   when-same nones = refl
   when-same (nodes {i = i} {j = j} h p q) =
-      if-same _ _ _ _ _ _ (kind-is i j h 7) (ap whenever (condition-same i j h _ _ (conditions-same p))) (when-same q)
+      if-same _ _ _ _ _ _ (kind-is i j h 7) (ap whenever (condition-same i j h _ _ _ _ (conditions-same p) (values-same p))) (when-same q)
 
   rule-same : (i j : ℕ) (x y : Forest) → SameButSpan b i c j → AlikeForests x y → ruleAt b i x ≡ ruleAt c j y
   unfolding ruleAt
@@ -135,6 +168,7 @@ pub alike-is-read-alike : (b c : List ℕ) {f g : Forest} → AlikeForests b c f
 alike-is-read-alike b c a =
     record {
       target = target-same b c a;
+      values = values-same b c a;
       conditions = conditions-same b c a;
       condition = when-same b c a;
       rules = rules-same b c a;

@@ -14,10 +14,10 @@ use Rattle.record.specs.Bytes.{size, byteOf, spanOf, bigOf}
 use Rattle.record.proofs.Choose.{both-parts, no-false}
 use Rattle.record.proofs.Below.{all-same}
 use Rattle.record.proofs.Table.{length-tab, getD-tab}
-use Rattle.fields.specs.Fields.{kindAt, typeAt, finite, zeros, plainOk, sectionOk, comparesOk, obligationOk, rulesOf, fieldOk}
+use Rattle.fields.specs.Fields.{kindAt, typeAt, finite, zeros, plainOk, sectionOk, comparesOk, obligationOk, literalOk, attributeOk, rulesOf, fieldOk}
 use Rattle.fields.specs.declared.Kind.{Kind}
-use Rattle.fields.specs.declared.Kind.the-variants.{PolicySet, Policy, Rule, Section, Conjunction, Match, Logic, Not, Comparison, Obligation, Nothing}
-use Rattle.placement.specs.Place.{mostDepth, kindNumber, rankAt, standsOk}
+use Rattle.fields.specs.declared.Kind.the-variants.{PolicySet, Policy, Rule, Section, Conjunction, Match, Logic, Not, Comparison, Weighing, Obligation, Literal, Attribute, Operator, Nothing}
+use Rattle.placement.specs.Place.{mostDepth, kindNumber, rankAt, standsOk, valueType}
 use Rattle.structure.specs.Subtrees.{recordAt, SameRecord, SameButSpan}
 use Rattle.structure.specs.Sound.{Parent, asParent, lineOne, recordOk, childOk}
 
@@ -32,7 +32,11 @@ policy-kind Match a = no-false a
 policy-kind Logic a = no-false a
 policy-kind Not a = no-false a
 policy-kind Comparison a = no-false a
+policy-kind Weighing a = no-false a
 policy-kind Obligation a = no-false a
+policy-kind Literal a = no-false a
+policy-kind Attribute a = no-false a
+policy-kind Operator a = no-false a
 policy-kind Nothing a = no-false a
 
 -- records that differ in nothing but their spans
@@ -61,6 +65,10 @@ module _ (b : List ℕ) (i : ℕ) (c : List ℕ) (j : ℕ) (h : SameButSpan b i 
   pub rank-same : rankAt b i ≡ rankAt c j
   unfolding rankAt
   rank-same = rw (kind-same, later-byte 4 (omega arith) (omega arith)) refl
+
+  pub type-same : valueType b i ≡ valueType c j
+  unfolding valueType
+  type-same = rw (kind-same, choice-byte, later-byte 5 (omega arith) (omega arith)) refl
 
   pub parent-same : (u : Parent) → asParent u b i ≡ asParent u c j
   parent-same u = rw (kind-same, later-byte 4 (omega arith) (omega arith)) refl
@@ -100,6 +108,15 @@ module _ (b : List ℕ) (i : ℕ) (c : List ℕ) (j : ℕ) (h : SameRecord b i c
   unfolding obligationOk
   obligation-same = rw (span-same, zeros-all 4 6 (omega arith) (omega arith), zeros-all 8 size (omega arith) (omega arith)) refl
 
+  literal-same : literalOk b i ≡ literalOk c j
+  unfolding literalOk finite
+  literal-same =
+      rw (span-same, h 5 (omega arith), zeros-all 4 5 (omega arith) (omega arith), zeros-all 6 8 (omega arith) (omega arith), big-same b i c j (but-span b i c j h) 8 8 (omega arith) (omega arith)) refl
+
+  attribute-same : attributeOk b i ≡ attributeOk c j
+  unfolding attributeOk typeAt
+  attribute-same = rw (span-same, h 4 (omega arith), h 5 (omega arith), zeros-all 8 size (omega arith) (omega arith)) refl
+
   rules-same : (k : Kind) → rulesOf b i k ≡ rulesOf c j k
   rules-same PolicySet = plain-same 1
   rules-same Policy = plain-same 1
@@ -110,7 +127,11 @@ module _ (b : List ℕ) (i : ℕ) (c : List ℕ) (j : ℕ) (h : SameRecord b i c
   rules-same Logic = plain-same 1
   rules-same Not = plain-same 2
   rules-same Comparison = ap (λ (x : ℕ). comparesOk b i (x - 10)) (h 1 (omega arith)) ∙ compares-same (byteOf c j 1 - 10)
+  rules-same Weighing = plain-same 1
   rules-same Obligation = obligation-same
+  rules-same Literal = literal-same
+  rules-same Attribute = attribute-same
+  rules-same Operator = plain-same 1
   rules-same Nothing = refl
 
   field-same : fieldOk b i ≡ fieldOk c j

@@ -17,25 +17,28 @@ use Rattle.fields.proofs.First.{by}
 use Rattle.placement.specs.Place.{rankOf, rankAt, standsOk}
 use Rattle.placement.proofs.Laws.{span-end, stands-parts, all-but}
 use Rattle.structure.specs.Subtrees.{Subtrees, noSubtree, subtree, recordCount, recordAt, subtreesOf, joined, SameRecord}
-use Rattle.structure.specs.Sound.{Parent, asParent, recordOk, childOk, sound, rankAfter, soundAt}
+use Rattle.structure.specs.Sound.{Parent, asParent, recordOk, childOk, operandsIn, sound, rankAfter, soundAt}
 use Rattle.structure.proofs.Records.{MayStand, record-bytes, record-length, record-but-span, record-parts, parts-record, child-parts, parts-child, heads-same, stand-same, rank-same, parent-same}
 use Rattle.structure.proofs.Subtrees.{EndsThere, subtrees-none, subtrees-step, subtrees-stated, subtrees-cut, count-subtrees}
 
 pub sound-parts : (u : Parent) (e : ℕ) (r : List ℕ) (kids rest : Subtrees) → sound u e (subtree r kids rest) ≡ true
-    → (recordOk r (recordCount kids) ≡ true) × (childOk u e r ≡ true) × (sound (asParent u r 0) 0 kids ≡ true) × (sound u (rankAt r 0) rest ≡ true)
+    → (recordOk r (recordCount kids) ≡ true) × (childOk u e r ≡ true) × (operandsIn r kids ≡ true) × (sound (asParent u r 0) 0 kids ≡ true)
+    × (sound u (rankAt r 0) rest ≡ true)
 unfolding sound
 sound-parts u e r kids rest h =
     let k : Bool = sound (asParent u r 0) 0 kids in
     let t : Bool = sound u (rankAt r 0) rest in
-    let x = both-parts (recordOk r (recordCount kids)) (both (childOk u e r) (both k t)) h in
-    let y = both-parts (childOk u e r) (both k t) (x .1) in
+    let c : Bool = both (childOk u e r) (operandsIn r kids) in
+    let x = both-parts (recordOk r (recordCount kids)) (both c (both k t)) h in
+    let y = both-parts c (both k t) (x .1) in
     let z = both-parts k t (y .1) in
-    (x .0, y .0, z .0, z .1)
+    let o = both-parts (childOk u e r) (operandsIn r kids) (y .0) in
+    (x .0, o .0, o .1, z .0, z .1)
 
 pub parts-sound : (u : Parent) (e : ℕ) (r : List ℕ) (kids rest : Subtrees) → recordOk r (recordCount kids) ≡ true → childOk u e r ≡ true
-    → sound (asParent u r 0) 0 kids ≡ true → sound u (rankAt r 0) rest ≡ true → sound u e (subtree r kids rest) ≡ true
+    → operandsIn r kids ≡ true → sound (asParent u r 0) 0 kids ≡ true → sound u (rankAt r 0) rest ≡ true → sound u e (subtree r kids rest) ≡ true
 unfolding sound
-parts-sound u e r kids rest a c k t = rw (a, c, k, t) refl
+parts-sound u e r kids rest a c o k t = rw (a, c, o, k, t) refl
 
 pub sound-none : (u : Parent) (e : ℕ) (b : List ℕ) (i left : ℕ) → left ≡ 0 → soundAt u e b i left ≡ true
 unfolding soundAt sound
@@ -55,6 +58,7 @@ pub record FirstChild (u : Parent) (e : ℕ) (b : List ℕ) (i left : ℕ) : Typ
   pub some : 1 ≤ spanOf b i
   pub within : spanOf b i ≤ left
   pub child : MayStand u e b i
+  pub operands : operandsIn (recordAt b i) (subtreesOf b (i + 1) (spanOf b i - 1)) ≡ true
   pub kids : soundAt (asParent u b i) 0 b (i + 1) (spanOf b i - 1) ≡ true
   pub rest : soundAt u (rankAt b i) b (i + spanOf b i) (left - spanOf b i) ≡ true
 
@@ -74,8 +78,9 @@ first-of u e b i left h x =
       some = omega arith;
       within = omega arith;
       child = stand-same (recordAt b i) 0 b i (record-bytes b i) u e (child-parts u e (recordAt b i) (z .1));
-      kids = rw (parent-same (recordAt b i) 0 b i (record-but-span b i) u, g) at (z .2);
-      rest = rw (rank-is b i, g) at (z .3);
+      operands = rw g at (z .2);
+      kids = rw (parent-same (recordAt b i) 0 b i (record-but-span b i) u, g) at (z .3);
+      rest = rw (rank-is b i, g) at (z .4);
     }
 
 pub of-first : (u : Parent) (e : ℕ) (b : List ℕ) (i left : ℕ) → FirstChild u e b i left → soundAt u e b i left ≡ true
@@ -88,11 +93,12 @@ of-first u e b i left w =
     (parts-sound u e (recordAt b i) (subtreesOf b (i + 1) (spanOf b i - 1)) (subtreesOf b (i + spanOf b i) (left - spanOf b i))
     (parts-record (recordAt b i) _ (record-length b i) (heads-same b i (recordAt b i) 0 back _ (record { fields = w .fields; span = omega (arith, c) })))
     (parts-child u e (recordAt b i) (stand-same b i (recordAt b i) 0 back u e (w .child)))
+    (w .operands)
     (rw (parent-same (recordAt b i) 0 b i (record-but-span b i) u) (w .kids))
     (rw (rank-is b i) (w .rest)))
 
 -- sound records end where they should
-endsF : (f : ℕ) (u : Parent) (e : ℕ) (b : List ℕ) (i left : ℕ) → left ≤ f → soundAt u e b i left ≡ true → EndsThere b i left
+pub endsF : (f : ℕ) (u : Parent) (e : ℕ) (b : List ℕ) (i left : ℕ) → left ≤ f → soundAt u e b i left ≡ true → EndsThere b i left
 endsF zero u e b i left l x j a z = absurd (omega arith)
 endsF (suc f) u e b i zero l x j a z = absurd (omega arith)
 endsF (suc f) u e b i (suc k) l x j a z =
@@ -128,7 +134,7 @@ sound-lower u e d (subtree r kids rest) l h =
     let z = sound-parts u e r kids rest h in
     let w = child-parts u e r (z .1) in
     parts-sound u d r kids rest (z .0)
-    (parts-child u d r (record { stands = stands-lower (u .number) (kindAt r 0) (byteOf r 0 4) e d (u .grand) l (w .stands); deep = w .deep })) (z .2) (z .3)
+    (parts-child u d r (record { stands = stands-lower (u .number) (kindAt r 0) (byteOf r 0 4) e d (u .grand) l (w .stands); deep = w .deep })) (z .2) (z .3) (z .4)
 
 pub rank-lower : (e d : ℕ) (x : Subtrees) → d ≤ e → rankAfter d x ≤ rankAfter e x
 unfolding rankAfter
@@ -154,7 +160,7 @@ unfolding sound joined rankAfter
 sound-joined u e noSubtree y = refl
 sound-joined u e (subtree r kids rest) y =
     rw (sound-joined u (rankAt r 0) rest y)
-    (four (recordOk r (recordCount kids)) (childOk u e r) (sound (asParent u r 0) 0 kids) (sound u (rankAt r 0) rest) (sound u (rankAfter (rankAt r 0) rest) y))
+    (four (recordOk r (recordCount kids)) (both (childOk u e r) (operandsIn r kids)) (sound (asParent u r 0) 0 kids) (sound u (rankAt r 0) rest) (sound u (rankAfter (rankAt r 0) rest) y))
   where
     four : (a b c d f : Bool) → both a (both b (both c (both d f))) ≡ both (both a (both b (both c d))) f
     four true true true d f = refl

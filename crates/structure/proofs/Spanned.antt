@@ -12,7 +12,7 @@ use Rattle.record.specs.Bytes.{size, spanOf}
 use Rattle.record.proofs.Choose.{both-right, no-false}
 use Rattle.fields.specs.Fields.{kindAt, zeros, plainOk, rulesOf, fieldOk}
 use Rattle.fields.specs.declared.Kind.{Kind}
-use Rattle.fields.specs.declared.Kind.the-variants.{PolicySet, Policy, Rule, Section, Conjunction, Match, Logic, Not, Comparison, Obligation, Nothing}
+use Rattle.fields.specs.declared.Kind.the-variants.{PolicySet, Policy, Rule, Section, Conjunction, Match, Logic, Not, Comparison, Weighing, Obligation, Literal, Attribute, Operator, Nothing}
 use Rattle.structure.specs.Subtrees.{withSpan, SameButSpan}
 use Rattle.structure.proofs.Records.{kind-same, zeros-same}
 
@@ -27,7 +27,11 @@ anySpan Match = false
 anySpan Logic = true
 anySpan Not = false
 anySpan Comparison = false
+anySpan Weighing = true
 anySpan Obligation = false
+anySpan Literal = false
+anySpan Attribute = false
+anySpan Operator = true
 anySpan Nothing = false
 
 -- they keep their field rules with any span
@@ -46,7 +50,11 @@ module _ (b : List ℕ) (i : ℕ) (c : List ℕ) (j : ℕ) (h : SameButSpan b i 
   rules-kept Logic a e l = plain-kept e l
   rules-kept Not a e l = no-false a
   rules-kept Comparison a e l = no-false a
+  rules-kept Weighing a e l = plain-kept e l
   rules-kept Obligation a e l = no-false a
+  rules-kept Literal a e l = no-false a
+  rules-kept Attribute a e l = no-false a
+  rules-kept Operator a e l = plain-kept e l
   rules-kept Nothing a e l = no-false a
 
   pub fields-kept : anySpan (kindAt b i) ≡ true → fieldOk b i ≡ true → 1 ≤ spanOf c j → fieldOk c j ≡ true

@@ -36,7 +36,7 @@ sound-formed u e noSubtree h = formed-none
 sound-formed u e (subtree r kids rest) h =
     let z = sound-parts u e r kids rest h in
     let w = record-parts r (recordCount kids) (z .0) in
-    formed (w .0) (w .1 .span) (sound-formed _ 0 kids (z .2)) (sound-formed u _ rest (z .3))
+    formed (w .0) (w .1 .span) (sound-formed _ 0 kids (z .3)) (sound-formed u _ rest (z .4))
 
 pub book-formed : (x : Subtrees) → soundBook x ≡ true → Formed x
 book-formed noSubtree h = formed-none

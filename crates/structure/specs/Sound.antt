@@ -9,7 +9,7 @@ use lib.ListN.{length}
 use Rattle.record.specs.Choose.{both, among}
 use Rattle.record.specs.Bytes.{size, byteOf, spanOf}
 use Rattle.fields.specs.Fields.{kindAt, fieldOk}
-use Rattle.placement.specs.Place.{mostDepth, kindNumber, rankAt, standsOk, placeOk}
+use Rattle.placement.specs.Place.{mostDepth, kindNumber, rankAt, standsOk, valueType, operandsOk, placeOk}
 use Rattle.placement.specs.Keeps.{Sized}
 use Rattle.structure.specs.Subtrees.{Subtrees, noSubtree, subtree, recordCount, subtreesOf, sliceOf}
 
@@ -35,11 +35,28 @@ recordOk r n = both (eqb (length r) size) (both (fieldOk r 0) (eqb (spanOf r 0) 
 unfoldable pub childOk : Parent → ℕ → List ℕ → Bool
 childOk u e r = both (standsOk (u .number) (kindAt r 0) (byteOf r 0 4) e (u .grand)) (ltb (u .above) mostDepth)
 
+-- the type of the first of some subtrees, where it is a value; and whether they are two values of type t
+unfoldable pub firstType : Subtrees → ℕ
+firstType noSubtree = 0
+firstType (subtree r kids rest) = valueType r 0
+
+unfoldable pub twoOf : Subtrees → ℕ → Bool
+twoOf noSubtree t = false
+twoOf (subtree r kids noSubtree) t = false
+twoOf (subtree r kids (subtree r′ kids′ noSubtree)) t = both (eqb (valueType r 0) t) (eqb (valueType r′ 0) t)
+twoOf (subtree r kids (subtree r′ kids′ (subtree r″ kids″ rest))) t = false
+
+-- a record has the operands that it wants, by the subtrees of its children
+unfoldable pub operandsIn : List ℕ → Subtrees → Bool
+operandsIn r kids = operandsOk (kindAt r 0) (byteOf r 0 1) (firstType kids) (twoOf kids)
+
 -- subtrees that are sound as children of u, after a child of rank e; 0 where there is none before
 unfoldable pub sound : Parent → ℕ → Subtrees → Bool
 sound u e noSubtree = true
 sound u e (subtree r kids rest) =
-    both (recordOk r (recordCount kids)) (both (childOk u e r) (both (sound (asParent u r 0) 0 kids) (sound u (rankAt r 0) rest)))
+    both (recordOk r (recordCount kids))
+    (both (both (childOk u e r) (operandsIn r kids))
+    (both (sound (asParent u r 0) 0 kids) (sound u (rankAt r 0) rest)))
 
 -- the rank of the last child, where a child of rank e stands before
 unfoldable pub rankAfter : ℕ → Subtrees → ℕ

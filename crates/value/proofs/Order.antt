@@ -13,7 +13,7 @@ use Rattle.value.specs.Units.{sizeOf, withSign, unitsOf, OrderIsOfUnits}
 use Rattle.value.proofs.Sizes.{Scales, of-bits, double-value}
 
 -- x is to y as a to b, where x * c is a * d and y * c is b * d
-ltb-scale : (x y a b c d : ℕ) → 0 < c → 0 < d → x * c ≡ a * d → y * c ≡ b * d → ltb x y ≡ ltb a b
+pub ltb-scale : (x y a b c d : ℕ) → 0 < c → 0 < d → x * c ≡ a * d → y * c ≡ b * d → ltb x y ≡ ltb a b
 ltb-scale x y a b c d C D p q = go (ltb a b) refl
   where
     go : (t : Bool) → ltb a b ≡ t → ltb x y ≡ ltb a b

@@ -35,7 +35,7 @@ fields-value s (suc x) t h = go (eqb (suc x) 2047) h
     go true k = absurd k
     go false k = odd-sign 53 s (2 ^ 52 + t) x 1074
 
-bits-value : (n : ℕ) → T (finiteOf n) → HasValue (ofBits binary64 n) (leb (2 ^ 63) n) (sizeOf n) (2 ^ 1074)
+pub bits-value : (n : ℕ) → T (finiteOf n) → HasValue (ofBits binary64 n) (leb (2 ^ 63) n) (sizeOf n) (2 ^ 1074)
 unfolding finiteOf ofBits
 bits-value n h = rw (field n) (fields-value (leb (2 ^ 63) n) (n / 2 ^ 52 % 2048) (n % 2 ^ 52) h)
 
@@ -47,7 +47,7 @@ BySize holds compares = (u v : Bool) (m n : ℕ) (e d : ℤ) → holds (fin u m 
 abbrev pub Scales : (Bool → ℕ → Bool → ℕ → Bool) → Type 0
 Scales compares = (s t : Bool) (x y a b c d : ℕ) → 0 < c → 0 < d → x * c ≡ a * d → y * c ≡ b * d → compares s x t y ≡ compares s a t b
 
-down-pos : (e : ℤ) → 0 < down e
+pub down-pos : (e : ℤ) → 0 < down e
 down-pos (pos k) = omega arith
 down-pos (negsuc k) = pow-pos (suc k)
 

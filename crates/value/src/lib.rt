@@ -37,7 +37,7 @@ pub fn finite(n: u64) -> bool
 }
 
 // Eight bytes as a signed number. Where the top bit is set, n - 2^64 is (n - 2^63) - 2^63.
-fn signed(n: u64) -> i64
+pub fn signed(n: u64) -> i64
     ensures { λ r. ⌜ r ≡ signed64 n ⌝ }
 {
     if n < 9223372036854775808 {

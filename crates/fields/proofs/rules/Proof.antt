@@ -30,7 +30,22 @@ returns-9 : tie.Need-returns-9
 returns-9 c = rw (c .before .before .before .enum-told9 .given .1, ← c .before .before .byte2 .ensures .0, ← c .before .less-ten .ensures) (c .compares-ok2 .ensures)
 
 returns-10 : tie.Need-returns-10
-returns-10 c = rw (c .before .enum-told10 .given .1) (c .obligation-ok .ensures)
+returns-10 c = rw (c .before .enum-told10 .given .1) (c .plain-ok7 .ensures)
+
+returns-11 : tie.Need-returns-11
+returns-11 c = rw (c .before .enum-told11 .given .1) (c .obligation-ok .ensures)
+
+returns-12 : tie.Need-returns-12
+returns-12 c = rw (c .before .enum-told12 .given .1) (c .literal-ok .ensures)
+
+returns-13 : tie.Need-returns-13
+returns-13 c = rw (c .before .enum-told13 .given .1) (c .attribute-ok .ensures)
+
+returns-14 : tie.Need-returns-14
+returns-14 c = rw (c .before .enum-told14 .given .1) (c .plain-ok8 .ensures)
+
+returns-15 : tie.Need-returns-15
+returns-15 c = rw (c .enum-told15 .given .1)
 
 pub rules-spec : {M : Type 1} → statement M
 rules-spec =
@@ -60,6 +75,14 @@ rules-spec =
     (λ c. search needs)
     (λ c κs. search needs)
     (λ c. search needs)
+    (λ c κs. search needs)
+    (λ c. search needs)
+    (λ c κs. search needs)
+    (λ c. search needs)
+    (λ c κs. search needs)
+    (λ c. search needs)
+    (λ c κs. search needs)
+    (λ c. search needs)
     returns
     returns-2
     returns-3
@@ -70,4 +93,8 @@ rules-spec =
     returns-8
     returns-9
     returns-10
-    (λ c. search needs))
+    returns-11
+    returns-12
+    returns-13
+    returns-14
+    returns-15)

@@ -18,6 +18,7 @@ use Rattle.grammar.proofs.+condition+joined.Lts-joined as joined-lts
 use Rattle.grammar.proofs.kept.is_comparison.Reads as is-comparison-reads
 use Rattle.grammar.proofs.kept.is_logic.Reads as is-logic-reads
 use Rattle.grammar.proofs.kept.is_not.Reads as is-not-reads
+use Rattle.grammar.proofs.weighing.Reads as weighing-reads
 use Rattle.record.proofs.span.Reads as span-reads
 use Rattle.grammar.proofs.+condition+joined.{statement}
 use Rattle.grammar.proofs.+condition+joined.Tie.{close}
@@ -46,7 +47,7 @@ abbrev condition-calls : ℕ → condition-lts.Claims
 condition-calls t = (is-comparison-reads.Asked, is-comparison-reads.Learnt, joined-below t, joined.Post)
 
 abbrev joined-calls : ℕ → joined-lts.Claims
-joined-calls t = (span-reads.Asked, span-reads.Learnt, is-not-reads.Asked, is-not-reads.Learnt, condition-below t, condition.Post, is-logic-reads.Asked, is-logic-reads.Learnt)
+joined-calls t = (span-reads.Asked, span-reads.Learnt, is-not-reads.Asked, is-not-reads.Learnt, condition-below t, condition.Post, is-logic-reads.Asked, is-logic-reads.Learnt, weighing-reads.Asked, weighing-reads.Learnt)
 
 abbrev joined-Inv-loop : joined-lts.InvT-loop
 joined-Inv-loop book i end depth next at₀ at =
@@ -101,7 +102,8 @@ pub +condition+joined-spec : {M : Type 1} → statement M
     (λ c z. absurd (omega arith))
     (joined-returns-3 t)
     (λ c κs. search needs)
-    (λ c z. absurd (omega arith))
+    (λ c κs. search needs)
+    (λ c. c .weighing .ensures)
     (λ c. search needs)
     (joined-loop-holds t)
     (λ c. search needs)

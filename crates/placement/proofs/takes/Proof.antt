@@ -30,7 +30,19 @@ returns-9 : tie.Need-returns-9
 returns-9 c = rw (c .before .enum-told9 .given .1) (c .holds-conditions3 .ensures)
 
 returns-10 : tie.Need-returns-10
-returns-10 c = rw (c .before .enum-told10 .given .1) (c .up-to2 .ensures)
+returns-10 c = rw (c .before .enum-told10 .given .1) (c .holds-conditions4 .ensures)
+
+returns-11 : tie.Need-returns-11
+returns-11 c = rw (c .before .enum-told11 .given .1) (c .up-to2 .ensures)
+
+returns-12 : tie.Need-returns-12
+returns-12 c = rw (c .before .enum-told12 .given .1) (c .holds-values .ensures)
+
+returns-13 : tie.Need-returns-13
+returns-13 c = rw (c .before .enum-told13 .given .1) (c .holds-values2 .ensures)
+
+returns-14 : tie.Need-returns-14
+returns-14 c = rw (c .before .enum-told14 .given .1) (c .holds-values3 .ensures)
 
 pub takes-spec : {M : Type 1} → statement M
 takes-spec =
@@ -52,6 +64,14 @@ takes-spec =
     (λ c. search needs)
     (λ c κs. search needs)
     (λ c. search needs)
+    (λ c κs. search needs)
+    (λ c. search needs)
+    (λ c κs. search needs)
+    (λ c. search needs)
+    (λ c κs. search needs)
+    (λ c. search needs)
+    (λ c κs. search needs)
+    (λ c. search needs)
     returns
     returns-2
     returns-3
@@ -62,4 +82,8 @@ takes-spec =
     returns-8
     returns-9
     returns-10
+    returns-11
+    returns-12
+    returns-13
+    returns-14
     (λ c. search needs))

@@ -3,7 +3,7 @@ use mathlib.Core.Path.{refl}
 use native.Mathlib.Omega.{arith}
 use borrow.Author.Needs.{needs}
 use Rattle.elders.proofs.Links.{piece-of, linked-at}
-use Rattle.emission.proofs.Emit.{as-is, fits-as, same-as, differs, above, no-more, nothing, three, third-fits, second-fits, first-fits, op-at, closes, opened, condition-zero, condition-high, conditions-none}
+use Rattle.emission.proofs.Emit.{as-is, fits-as, same-as, differs, above, no-more, nothing, three, third-fits, second-fits, first-fits, op-at, closes, opened, condition-zero, conditions-none}
 use Rattle.emission.proofs.Turns.{Going, conditionsTo, go-begin, go-less, go-below, go-room, go-again, go-end, conditions-stop, conditions-turn, conditions-grow, cond-bare, cond-not, cond-parts, first-linked}
 use borrow.Fn.Kinds.{In}
 use borrow.Fn.PlainCycle.{Measures, is, falls, and}
@@ -16,6 +16,7 @@ use Rattle.emission.proofs.conditions.+condition+conditions.Lts-conditi
 use Rattle.record.proofs.byte.Reads as byte-reads
 use Rattle.record.proofs.span_in.Reads as span-in-reads
 use Rattle.emission.proofs.conditions.comparison.Reads as comparison-reads
+use Rattle.emission.proofs.conditions.weighing.Reads as weighing-reads
 use Rattle.elders.proofs.elder.Reads as elder-reads
 use Rattle.emission.proofs.single.Reads as single-reads
 use Rattle.emission.proofs.conditions.+condition+conditions.{statement}
@@ -43,7 +44,7 @@ conditions-below t =
     and 3 conditions-kinds.ps (falls 3 conditions-kinds.ps _<_ μ-conditions t) conditions.Pre
 
 abbrev condition-calls : ℕ → condition-lts.Claims
-condition-calls t = (byte-reads.Asked, byte-reads.Learnt, comparison-reads.Asked, comparison-reads.Learnt, span-in-reads.Asked, span-in-reads.Learnt, single-reads.Asked, single-reads.Learnt, condition-below t, condition.Post, conditions-below t, conditions.Post)
+condition-calls t = (byte-reads.Asked, byte-reads.Learnt, comparison-reads.Asked, comparison-reads.Learnt, weighing-reads.Asked, weighing-reads.Learnt, span-in-reads.Asked, span-in-reads.Learnt, single-reads.Asked, single-reads.Learnt, condition-below t, condition.Post, conditions-below t, conditions.Post)
 
 abbrev conditions-calls : ℕ → conditions-lts.Claims
 conditions-calls t = (elder-reads.Asked, elder-reads.Learnt, condition-below t, condition.Post)
@@ -58,18 +59,13 @@ condition-returns t c =
     let at-if1 = c .before .before .before .before in
     as-is (condition-zero _ _ _ _ (same-as (at-if1 .before .byte .ensures .0) (at-if1 .if1 .taken))) (c .before .before .comparison .ensures)
 
+condition-weighing-requires : (t : ℕ) → condition-lts.Need-weighing-requires (condition-calls t) (condition-at t) condition.Post
+condition-weighing-requires t c κs =
+    let start = c .before .before .before .before .before .before in
+    (start .pre .1 .0, start .pre .1 .2, above 3 (c .before .before .before .byte .ensures .0) (c .before .if2 .taken), start .pre .1 .3, search needs)
+
 condition-comparison-requires-2 : (t : ℕ) → condition-lts.Need-comparison-requires-2 (condition-calls t) (condition-at t) condition.Post
 condition-comparison-requires-2 t c κs =
-    let start = c .before .before .before .before .before .before in
-    (search needs, fits-as _ (condition-high _ _ _ _ (above 3 (c .before .before .before .byte .ensures .0) (c .before .if2 .taken))) (start .pre .1 .3), search needs)
-
-condition-returns-2 : (t : ℕ) → condition-lts.Need-returns-2 (condition-calls t) (condition-at t) condition.Post
-condition-returns-2 t c =
-    let at-if2 = c .before .before .before .before in
-    as-is (condition-high _ _ _ _ (above 3 (at-if2 .before .before .byte .ensures .0) (at-if2 .if2 .taken))) (c .before .before .comparison2 .ensures)
-
-condition-comparison-requires-3 : (t : ℕ) → condition-lts.Need-comparison-requires-3 (condition-calls t) (condition-at t) condition.Post
-condition-comparison-requires-3 t c κs =
     let at-byte = c .before .before .before .before .before in
     let start = at-byte .before .before .before in
     (search needs, fits-as _ (cond-bare _ _ _ _ (start .pre .1 .0) (same-as (at-byte .byte .ensures .0) (c .before .before .if3 .taken)) (c .before .if4 .taken)) (start .pre .1 .3), search needs)
@@ -79,7 +75,7 @@ condition-returns-3 t c =
     let at-if4 = c .before .before .before .before in
     let at-byte = at-if4 .before .before .before .before in
     let start = at-byte .before .before .before in
-    as-is (cond-bare _ _ _ _ (start .pre .1 .0) (same-as (at-byte .byte .ensures .0) (at-if4 .before .if3 .taken)) (at-if4 .if4 .taken)) (c .before .before .comparison3 .ensures)
+    as-is (cond-bare _ _ _ _ (start .pre .1 .0) (same-as (at-byte .byte .ensures .0) (at-if4 .before .if3 .taken)) (at-if4 .if4 .taken)) (c .before .before .comparison2 .ensures)
 
 condition-single-requires : (t : ℕ) → condition-lts.Need-single-requires (condition-calls t) (condition-at t) condition.Post
 condition-single-requires t c κs =
@@ -191,11 +187,11 @@ pub +condition+conditions-spec : {M : Type 1} → statement M
     (condition-comparison-requires t)
     (λ c. search needs)
     (condition-returns t)
+    (condition-weighing-requires t)
+    (λ c. search needs)
+    (λ c. search needs)
+    (λ c. search needs)
     (condition-comparison-requires-2 t)
-    (λ c. search needs)
-    (condition-returns-2 t)
-    (λ c. search needs)
-    (condition-comparison-requires-3 t)
     (λ c. search needs)
     (condition-returns-3 t)
     (λ c. search needs)

@@ -1,5 +1,5 @@
 use Rattle.programme.proofs.Found.{compare-short, does, outside, compare-lawful}
-use Rattle.layout.specs.Layout.{compareBy, levelOf}
+use Rattle.layout.specs.Layout.{compareBy}
 use Rattle.moves.specs.Core.{core}
 use lib.ListN.{getD}
 use borrow.Author.Tests.{not-true, not-false}
@@ -19,10 +19,10 @@ returns-2 c = λ m f b. outside _ _ _ _ _ m f b (compare-lawful _ _ _ _ ∙ (sym
 returns-3 : tie.Need-returns-3
 unfolding core compareBy
 returns-3 c =
-    let reached = c .before .before .before .before in
+    let reached = c .before .before .before in
     let a = reached .before .before .before .before .before .before .before .args in
     let p = a .programme .now in
-    λ m f b. does _ _ (a .h) (compareBy (a .n) (getD p (a .h .at + 1) 0)) (levelOf (a .l)) m f b _ _ (compare-lawful _ _ _ _ ∙ (sym (reached .before .reaches .ensures) ∙ not-false _ (reached .if2 .left))) (rw (c .tell-level .ensures, c .before .level-of .ensures, c .before .before .comparison .ensures, c .before .before .before .test-by .ensures)) refl
+    λ m f b. does _ _ (a .h) (compareBy (a .n) (getD p (a .h .at + 1) 0)) (a .l) m f b _ _ (compare-lawful _ _ _ _ ∙ (sym (reached .before .reaches .ensures) ∙ not-false _ (reached .if2 .left))) (rw (c .tell-level .ensures, c .before .comparison .ensures, c .before .before .test-by .ensures)) refl
 
 pub compare-at-spec : {M : Type 1} → statement M
 compare-at-spec =
@@ -36,7 +36,6 @@ compare-at-spec =
     (λ c. search needs)
     (λ c κs. search needs)
     returns-2
-    (λ c κs. search needs)
     (λ c κs. search needs)
     (λ c κs. search needs)
     (λ c κs. search needs)

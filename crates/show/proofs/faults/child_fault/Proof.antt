@@ -26,6 +26,9 @@ returns-8 c = rw (c .before .enum-told8 .given .1) (c .condition-fault2 .ensures
 returns-9 : tie.Need-returns-9
 returns-9 c = rw (c .before .enum-told9 .given .1) (c .condition-fault3 .ensures)
 
+returns-10 : tie.Need-returns-10
+returns-10 c = rw (c .before .enum-told10 .given .1) (c .condition-fault4 .ensures)
+
 pub child-fault-spec : {M : Type 1} → statement M
 child-fault-spec =
     tie.close
@@ -48,6 +51,11 @@ child-fault-spec =
     (λ c. search needs)
     (λ c κs. search needs)
     (λ c. search needs)
+    (λ c κs. search needs)
+    (λ c. search needs)
+    (λ c. search needs)
+    (λ c. search needs)
+    (λ c. search needs)
     (λ c. search needs)
     returns
     returns-2
@@ -58,5 +66,9 @@ child-fault-spec =
     returns-7
     returns-8
     returns-9
+    returns-10
+    (λ c. search needs)
+    (λ c. search needs)
+    (λ c. search needs)
     (λ c. search needs)
     (λ c. search needs))

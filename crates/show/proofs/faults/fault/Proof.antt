@@ -6,7 +6,7 @@ use Rattle.show.proofs.faults.fault.Tie as tie
 
 returns : tie.Need-returns
 unfolding faultOf
-returns c = rw (eq-eqb _ _ (c .before .if1 .taken), ← c .before .before .kind-at .ensures) (c .field-fault .ensures)
+returns c = rw (eq-eqb _ _ (c .before .before .if1 .taken), ← c .before .kind-at .ensures) (c .field-fault .ensures)
 
 returns-2 : tie.Need-returns-2
 unfolding faultOf
@@ -18,7 +18,9 @@ returns-3 c = rw (ne-eqb _ _ (c .before .before .if1 .left), ne-eqb _ _ (c .befo
 
 returns-4 : tie.Need-returns-4
 unfolding faultOf
-returns-4 c = rw (ne-eqb _ _ (c .before .before .before .before .before .before .if1 .left), ne-eqb _ _ (c .before .before .before .before .before .if2 .left), ne-eqb _ _ (c .before .before .before .before .if3 .left), eq-eqb _ _ (c .before .before .before .if4 .taken), ← c .before .before .parent .ensures .0, ← c .before .byte2 .ensures .0, ← c .before .before .before .before .before .before .before .kind-at .ensures) (c .child-fault .ensures)
+returns-4 c =
+    let other = c .before .before in
+    rw (ne-eqb _ _ (other .before .before .if1 .left), ne-eqb _ _ (other .before .if2 .left), ne-eqb _ _ (other .if3 .left), eq-eqb _ _ (c .before .if4 .taken)) (c .place-fault .ensures)
 
 returns-5 : tie.Need-returns-5
 unfolding faultOf
@@ -35,8 +37,6 @@ fault-spec =
     (λ c κs. search needs)
     returns-2
     returns-3
-    (λ c κs. search needs)
-    (λ c κs. search needs)
     (λ c κs. search needs)
     returns-4
     returns-5)

@@ -1,0 +1,4 @@
+pub mod Rounds
+pub mod Overflow
+pub mod Closest
+pub mod Claims

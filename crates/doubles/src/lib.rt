@@ -1,0 +1,1 @@
+// Definitions and theorems only: the double nearest an exact sum.

@@ -1,0 +1,22 @@
+use Rattle.moves.proofs.PieceLaws.{left}
+use Rattle.moves.specs.Core.{worked}
+use borrow.Author.Needs.{needs}
+use Rattle.moves.proofs.pieces.work_words.Statement.{statement}
+use Rattle.moves.proofs.pieces.work_words.Tie as tie
+
+returns : tie.Need-returns
+returns c =
+    let a = c .before .before .before .before .before .before .args in
+    left (a .h) (worked (a .op) (a .m) (a .l)) _ (c .before .before .before .before .before .work .ensures) (c .before .before .before .before .since-word .ensures) (c .before .before .before .mark-in .ensures) (c .before .before .marked .ensures) (c .before .word-in .ensures) (c .moving .ensures)
+
+pub work-words-spec : {M : Type 1} → statement M
+work-words-spec =
+    tie.close
+    (tie.spec
+    (λ c κs. search needs)
+    (λ c κs. search needs)
+    (λ c κs. search needs)
+    (λ c κs. search needs)
+    (λ c κs. search needs)
+    (λ c κs. search needs)
+    returns)

@@ -1,0 +1,11 @@
+pub mod Signed
+pub mod Sum
+pub mod Quot
+pub mod Sizes
+pub mod Less
+pub mod Integers
+pub mod Finite
+pub mod Numbers
+pub mod Bytes
+pub mod Equal
+pub mod Claims

@@ -1,0 +1,4 @@
+pub mod Sums
+pub mod Bytes
+pub mod Equal
+pub mod Claims
