@@ -1,14 +1,24 @@
 /* Does one thing once, by one side or by neither: bench/instructions counts what that takes.
- *   once plain|bachumoi|neither judge|decide|translate|run REQUEST
- * The book is the rig-like one. Run from the top of the repository. */
+ *   once plain|bachumoi|neither judge|decide|translate|run BOOK REQUEST
+ * The files hold bytes, not text: little is done besides what is counted. */
 #include "machine.h"
 #include "plain.h"
 
+#include <fcntl.h>
 #include <stdbool.h>
-#include <stdio.h>
 #include <string.h>
+#include <unistd.h>
 
 uint64_t probe_judge_book(const uint8_t *book, size_t book_len);
+
+/* Reads a whole file: how many bytes it has. */
+static size_t load(const char *path, uint8_t *bytes, size_t most)
+{
+    int file = open(path, O_RDONLY);
+    ssize_t count = file < 0 ? 0 : read(file, bytes, most);
+    close(file);
+    return count < 0 ? 0 : (size_t)count;
+}
 
 static uint8_t book[MOST_BOOK], request[MOST_REQUEST], pairs[MOST_OUT];
 static size_t book_len, request_len;
@@ -48,13 +58,12 @@ int main(int count, char **words)
         const char *name;
         uint64_t (*by)(bool proved);
     } all[] = { { "judge", judge }, { "decide", decide }, { "translate", translation }, { "run", whole_run } };
-    if (count != 4) {
-        fprintf(stderr, "usage: once plain|bachumoi|neither judge|decide|translate|run REQUEST\n");
+    if (count != 5)
         return 2;
-    }
-    book_len = bytes_of_file("examples/rig/BOOK.HEX", book, MOST_BOOK);
-    request_len = bytes_of_file(words[3], request, MOST_REQUEST);
-    translate(&plain_machine, book, book_len, &programme);
+    book_len = load(words[3], book, MOST_BOOK);
+    request_len = load(words[4], request, MOST_REQUEST);
+    if (strcmp(words[2], "run") == 0)
+        translate(&plain_machine, book, book_len, &programme);
     uint64_t number = 0;
     for (size_t i = 0; i < sizeof all / sizeof *all; i++)
         if (strcmp(words[1], "neither") != 0 && strcmp(words[2], all[i].name) == 0)

@@ -29,6 +29,8 @@ mod refusal;
 mod requests;
 mod rig;
 mod run;
+#[cfg(test)]
+mod run_tests;
 mod subject;
 mod sums;
 #[cfg(test)]
@@ -45,11 +47,13 @@ use run::{compare, Cases, Difference};
 use std::process::ExitCode;
 
 const USAGE: &str = "usage: compare NAME COUNT [SEED [FIRST]]
+       compare NAME until TIMES COUNT [SEED]
        compare once CALL INPUT.. [ROOM]
        compare linked
 
 Runs COUNT generated cases against the static library that they are about, from case FIRST (0) of
-SEED (by the clock). NAME is
+SEED (by the clock). With `until` the run ends as soon as it has met each thing that it must meet
+TIMES times, and fails if COUNT cases do not. NAME is
   text     reading and writing             (library probe)
   judge    judging books and requests      (library probe)
   decide   deciding through the C host     (library host)
@@ -64,17 +68,20 @@ judge-book, judge-request (INPUT) or decide (BOOK REQUEST ROOM).
 
 fn main() -> ExitCode {
     let words: Vec<String> = std::env::args().skip(1).collect();
-    let numbers: Option<Vec<u64>> = words.iter().skip(1).map(|word| word.parse().ok()).collect();
+    let until = words.get(1).map_or(false, |word| word == "until");
+    let numbers: Option<Vec<u64>> = words.iter().skip(1 + usize::from(until)).map(|word| word.parse().ok()).collect();
     let result = match (words.first().map(String::as_str), numbers.as_deref()) {
         (Some("once"), _) => once::once(&words[1..]).unwrap_or_else(|| Err(USAGE.to_string())),
         (Some("linked"), Some([])) => {
             print_linked();
             Ok(true)
         }
-        (Some(name), Some([count, rest @ ..])) if rest.len() <= 2 => {
-            let seed = rest.first().copied().unwrap_or_else(run::seed_of_now);
+        (Some(name), Some([times, count, rest @ ..])) if until && rest.len() <= 1 => {
+            run_named(name, Cases { seed: seed_of(rest), first: 0, count: *count, enough: Some(*times) })
+        }
+        (Some(name), Some([count, rest @ ..])) if !until && rest.len() <= 2 => {
             let first = rest.get(1).copied().unwrap_or(0);
-            run_named(name, Cases { seed, first, count: *count })
+            run_named(name, Cases { seed: seed_of(rest), first, count: *count, enough: None })
         }
         _ => Err(USAGE.to_string()),
     };
@@ -86,6 +93,11 @@ fn main() -> ExitCode {
             ExitCode::from(2)
         }
     }
+}
+
+/// The seed that is given, or else the clock's.
+fn seed_of(numbers: &[u64]) -> u64 {
+    numbers.first().copied().unwrap_or_else(run::seed_of_now)
 }
 
 fn print_linked() {

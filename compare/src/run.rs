@@ -2,7 +2,6 @@
 
 use crate::random::Random;
 use crate::tally::{Tally, Wanted};
-use std::sync::Mutex;
 
 /// Which cases are run. Case k of a seed is the same in every run.
 #[derive(Clone, Copy)]
@@ -10,6 +9,8 @@ pub struct Cases {
     pub seed: u64,
     pub first: u64,
     pub count: u64,
+    /// How often all that is wanted must be met for the run to end before `count`; without it no run does.
+    pub enough: Option<u64>,
 }
 
 /// What a case says when the two sides differ: the input, and both answers.
@@ -17,7 +18,10 @@ pub type Difference = String;
 
 const SHOWN: usize = 3;
 
-/// Compares every case; true when none differs. A whole run must also meet all that is wanted; a
+/// After so many cases a run looks whether it has met enough.
+const ROUND: u64 = 2000;
+
+/// Compares the cases; true when none differs. A whole run must also meet all that is wanted; a
 /// run that starts at a later case is a second look at some cases, and need not.
 pub fn compare(
     name: &str,
@@ -26,31 +30,45 @@ pub fn compare(
     each: impl Fn(&mut Random, &mut Tally) -> Result<(), Difference> + Sync,
 ) -> bool {
     println!("{name}: seed {}", cases.seed);
-    let total = Mutex::new((Tally::default(), Vec::new()));
-    let threads = std::thread::available_parallelism().map_or(1, |count| count.get()) as u64;
-    std::thread::scope(|scope| {
-        for thread in 0..threads {
-            let (total, each) = (&total, &each);
-            scope.spawn(move || {
-                let (tally, differences) = run_part(cases, thread, threads, each);
-                let mut total = total.lock().expect("no thread panics with the lock");
-                total.0.merge(tally);
-                total.1.extend(differences);
-            });
+    let (mut tally, mut differences, mut done) = (Tally::default(), Differences::new(), 0);
+    while done < cases.count {
+        let round = Cases { first: cases.first + done, count: ROUND.min(cases.count - done), ..cases };
+        run_round(round, &each, &mut tally, &mut differences);
+        done += round.count;
+        if cases.enough.map_or(false, |times| tally.rarer(wanted, times).is_empty()) {
+            break;
         }
-    });
-    let (tally, mut differences) = total.into_inner().expect("all threads have ended");
+    }
     tally.print(wanted);
     differences.sort();
     for (case, difference) in differences.iter().take(SHOWN) {
         println!("{name}: case {case} differs; to see it again: compare {name} 1 {} {case}\n{difference}", cases.seed);
     }
-    let unmet = if cases.first == 0 { tally.unmet(wanted) } else { Vec::new() };
-    for (group, item) in &unmet {
-        println!("{name}: never met: {group}: {item}");
+    let rare = if cases.first == 0 { tally.rarer(wanted, cases.enough.unwrap_or(1)) } else { Vec::new() };
+    for (group, item) in &rare {
+        println!("{name}: met too rarely: {group}: {item}");
     }
-    println!("{name}: {} compared, {} differ", cases.count, differences.len());
-    differences.is_empty() && unmet.is_empty()
+    println!("{name}: {done} compared, {} differ", differences.len());
+    differences.is_empty() && rare.is_empty()
+}
+
+/// Runs the cases of a round on all processors.
+fn run_round(
+    cases: Cases,
+    each: &(impl Fn(&mut Random, &mut Tally) -> Result<(), Difference> + Sync),
+    tally: &mut Tally,
+    differences: &mut Differences,
+) {
+    let threads = std::thread::available_parallelism().map_or(1, |count| count.get()) as u64;
+    std::thread::scope(|scope| {
+        let parts: Vec<_> =
+            (0..threads).map(|thread| scope.spawn(move || run_part(cases, thread, threads, each))).collect();
+        for part in parts {
+            let (met, differing) = part.join().expect("no case panics");
+            tally.merge(met);
+            differences.extend(differing);
+        }
+    });
 }
 
 type Differences = Vec<(u64, Difference)>;

@@ -97,10 +97,10 @@ impl Tally {
         self.counts.get(&(group, item.into())).copied().unwrap_or(0)
     }
 
-    /// The items of `wanted` that were never met.
-    pub fn unmet(&self, wanted: &Wanted) -> Vec<(&'static str, Item)> {
+    /// The items of `wanted` that were met less than `times` times.
+    pub fn rarer(&self, wanted: &Wanted, times: u64) -> Vec<(&'static str, Item)> {
         let items = wanted.iter().flat_map(|(group, items)| items.iter().map(move |&item| (*group, item)));
-        items.filter(|&(group, item)| self.count(group, item) == 0).collect()
+        items.filter(|&(group, item)| self.count(group, item) < times).collect()
     }
 
     /// Prints a line a group.

@@ -614,7 +614,7 @@ fn exchange_values(line: &mut [u8]) {
 }
 
 fn cases(count: u64) -> Cases {
-    Cases { seed: 20, first: 0, count }
+    Cases { seed: 20, first: 0, count, enough: None }
 }
 
 /// Whether all cases agree. With a planted error nothing need be met, and the first difference is enough.

@@ -17,7 +17,9 @@ use Rattle.meaning.specs.Meaning.{gives, matchIn, matchOf, comparisonOf, condit
 use Rattle.meaning.specs.Reading.{keyAt, testAt, matchAt, comparisonAt, rowOf, childrenAt, conjunctionAt, sectionAt, targetIn, conditionAt, conditionsIn, whenIn, ruleAt, rulesIn, obligationsIn, treeAt, treesIn, bookOf, bagFrom, bagsOf}
 use Rattle.meaning.specs.declared.Decision.{Decision}
 use Rattle.meaning.specs.declared.Decision.the-variants.{Permit, Deny, NotApplicable, Indeterminate}
-use Rattle.placement.specs.Place.{endOf, parentOf, elderOf, depthOf, holdsConditions, singleOf, rankAt, elderRank, standsOk, operandsAt, childRule, childBroken, topOk, brokenAt, placeOk}
+use Rattle.operands.specs.Parent.{endOf, parentOf}
+use Rattle.operands.specs.Operands.{operandsAt}
+use Rattle.placement.specs.Place.{elderOf, depthOf, holdsConditions, singleOf, rankAt, elderRank, standsOk, childRule, childBroken, topOk, brokenAt, placeOk}
 use Rattle.judge.specs.Judge.{judgeRecords, judgeOf}
 use Rattle.judge.specs.Request.{judgeEntries, judgeRequestOf}
 use Rattle.decider.specs.Outcome.{dutiesOf, outcomeOf, outOf}

@@ -13,7 +13,7 @@ use Rattle.fields.specs.declared.Kind.{Kind}
 use Rattle.fields.specs.declared.Kind.the-variants.{Section, Conjunction, Match, Obligation}
 use Rattle.placement.specs.Place.{mostDepth, kindNumber, takesOf, riseOf, underOk, rankOf}
 use Rattle.grammar.specs.Row.{Fit, Row}
-use Rattle.placement.proofs.Laws.{span-end}
+use Rattle.operands.proofs.Parent.{span-end}
 use Rattle.grammar.proofs.Rows.{operandsOf, row-none, row-then, row-lower, row-child}
 use Rattle.grammar.proofs.Fits.{leaf, other, not-duty, duty, fit-span, fit-leaf}
 

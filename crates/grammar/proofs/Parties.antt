@@ -17,9 +17,11 @@ use Rattle.fields.specs.declared.Kind.the-variants.{PolicySet, Policy}
 use Rattle.fields.proofs.First.{by, first-reach-all}
 use Rattle.fields.proofs.Laws.{obligations-none, obligations-more, obligations-le}
 use Rattle.placement.specs.Keeps.{AllKeep}
-use Rattle.placement.specs.Place.{mostDepth, endOf, kindNumber, takesOf, riseOf, underOk, rankOf, placeOk}
+use Rattle.operands.specs.Parent.{endOf}
+use Rattle.placement.specs.Place.{mostDepth, kindNumber, takesOf, riseOf, underOk, rankOf, placeOk}
 use Rattle.grammar.specs.Row.{Fit, Row, Party, Clean}
-use Rattle.placement.proofs.Laws.{span-end, top-walk, top-ok}
+use Rattle.operands.proofs.Parent.{span-end}
+use Rattle.placement.proofs.Laws.{top-walk, top-ok}
 use Rattle.grammar.proofs.Fits.{other, not-duty, fit-span}
 use Rattle.grammar.proofs.Rows.{operandsOf, row-then}
 use Rattle.grammar.proofs.Parts.{row-other}

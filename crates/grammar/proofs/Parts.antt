@@ -13,7 +13,7 @@ use Rattle.fields.proofs.Spans.{plain-span}
 use Rattle.placement.specs.Place.{mostDepth, kindNumber, takesOf, riseOf, underOk, rankOf, holdsConditions, singleOf}
 use Rattle.grammar.specs.Row.{Fit, Row}
 use Rattle.grammar.proofs.Fits.{not-duty, fit-span, fit-leaf}
-use Rattle.placement.proofs.Laws.{span-end}
+use Rattle.operands.proofs.Parent.{span-end}
 use Rattle.grammar.proofs.Rows.{operandsOf, row-none, row-then, row-lower, row-child}
 
 -- something is below a not

@@ -12,10 +12,13 @@ use Rattle.fields.specs.Fields.{obligationsOf}
 use Rattle.fields.specs.declared.Kind.{Kind}
 use Rattle.fields.proofs.First.{by, first-reach-all}
 use Rattle.fields.proofs.Laws.{obligations-more}
-use Rattle.placement.specs.Place.{mostDepth, endOf, kindNumber, takesOf, riseOf, underOk, rankOf, standsOk, valueType, twoValues, operandsOk, operandsAt, placeOk}
+use Rattle.operands.specs.Parent.{endOf}
+use Rattle.operands.specs.Operands.{valueType, twoValues, operandsOk, operandsAt}
+use Rattle.placement.specs.Place.{mostDepth, kindNumber, takesOf, riseOf, underOk, rankOf, standsOk, placeOk}
 use Rattle.placement.specs.Walk.{Walk, Finds}
 use Rattle.grammar.specs.Row.{Fit, Row}
-use Rattle.placement.proofs.Laws.{span-end, rule-zero, Passed, passed, kids, rest}
+use Rattle.operands.proofs.Parent.{span-end}
+use Rattle.placement.proofs.Laws.{rule-zero, Passed, passed, kids, rest}
 
 pub row-none : (b : List ℕ) {i j e d pn gc pc lo hi : ℕ} → i ≡ j → lo ≤ hi → Row b i j e d pn gc pc lo hi 0
 row-none b q l = rw (← q) (record {

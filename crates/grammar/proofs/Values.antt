@@ -12,9 +12,11 @@ use Rattle.record.specs.Bytes.{byteOf, spanOf}
 use Rattle.fields.specs.declared.Kind.{Kind}
 use Rattle.fields.specs.declared.Kind.the-variants.{Weighing, Operator}
 use Rattle.fields.proofs.First.{by}
-use Rattle.placement.specs.Place.{mostDepth, endOf, kindNumber, takesOf, riseOf, underOk, rankOf, holdsValues, valueType, operatorType, twoValues, comparableBy}
-use Rattle.placement.proofs.Laws.{span-end}
-use Rattle.placement.proofs.Operands.{two-values}
+use Rattle.operands.specs.Parent.{endOf}
+use Rattle.operands.specs.Operands.{valueType, operatorType, twoValues, comparableBy}
+use Rattle.placement.specs.Place.{mostDepth, kindNumber, takesOf, riseOf, underOk, rankOf, holdsValues}
+use Rattle.operands.proofs.Parent.{span-end}
+use Rattle.operands.proofs.Operands.{two-values}
 use Rattle.grammar.specs.Row.{Fit, Row, Value, Operands}
 use Rattle.grammar.proofs.Fits.{leaf, fit-span, fit-leaf}
 use Rattle.grammar.proofs.Rows.{operandsOf, row-none, row-then}

@@ -10,7 +10,9 @@ use Rattle.record.specs.Bytes.{byteOf}
 use Rattle.fields.specs.Fields.{kindAt, fieldOk, obligationsOf}
 use Rattle.fields.specs.declared.Kind.{Kind}
 use Rattle.fields.specs.declared.Kind.the-variants.{PolicySet, Policy}
-use Rattle.placement.specs.Place.{endOf, kindNumber, holdsValues, valueType, twoValues, placeOk}
+use Rattle.operands.specs.Parent.{endOf}
+use Rattle.operands.specs.Operands.{valueType, twoValues}
+use Rattle.placement.specs.Place.{kindNumber, holdsValues, placeOk}
 use Rattle.placement.specs.Walk.{Walk}
 use Rattle.placement.specs.Keeps.{AllKeep}
 

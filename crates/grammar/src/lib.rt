@@ -110,7 +110,7 @@ fn value(book: &[u8], i: usize, end: usize, depth: usize, kind: usize) -> usize
     if MOST_DEPTH <= depth {
         return 0;
     }
-    if placement::value_type(book, i) != kind {
+    if operands::value_type(book, i) != kind {
         return 0;
     }
     if kept::is_literal(book, i) {
@@ -163,8 +163,8 @@ fn weighing(book: &[u8], i: usize, end: usize, depth: usize) -> usize
     if end == i + 1 {
         return 0;
     }
-    let kind = placement::value_type(book, i + 1);
-    if !placement::comparable(kind, record::byte(book, i, 1)) {
+    let kind = operands::value_type(book, i + 1);
+    if !operands::comparable(kind, record::byte(book, i, 1)) {
         return 0;
     }
     operands(book, i, end, depth, kind)

@@ -10,7 +10,8 @@ use lib.Dec.{leb}
 use borrow.Author.Tests.{le-leb, lt-leb, leb-true, leb-false, ne-eqb}
 use Rattle.record.specs.Refusals.{badPlace}
 use Rattle.fields.proofs.First.{by}
-use Rattle.placement.specs.Place.{mostDepth, endOf, parentOf, depthOf, childRule, childBroken, topOk, brokenAt, placeOk}
+use Rattle.operands.specs.Parent.{endOf, parentOf}
+use Rattle.placement.specs.Place.{mostDepth, depthOf, childRule, childBroken, topOk, brokenAt, placeOk}
 use Rattle.judge.specs.Sound.{Allowed, Placed}
 use Rattle.judge.specs.Exactly.{KeptTo, Breaks, top, past, misplaced, deep}
 use Rattle.judge.proofs.Sound.{fitsAt, fits-allowed, allowed-fits, placed-is-ok}

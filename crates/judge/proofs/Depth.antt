@@ -11,7 +11,8 @@ use native.Mathlib.Omega.{arith}
 use Rattle.record.specs.Bytes.{spanOf}
 use Rattle.record.specs.Forest.{Forest, none, node, spanIn, forest, height}
 use Rattle.record.proofs.Forests.{span-stated, forest-none, forest-step}
-use Rattle.placement.specs.Place.{endOf, depthOf}
+use Rattle.operands.specs.Parent.{endOf}
+use Rattle.placement.specs.Place.{depthOf}
 use Rattle.fields.specs.First.{countBelow}
 use Rattle.judge.specs.Sound.{Nested}
 use Rattle.placement.specs.Keeps.{Keeps}

@@ -11,7 +11,9 @@ use Rattle.value.specs.Value.{finiteOf}
 use Rattle.fields.specs.First.{countBelow, lastBelow, firstFrom}
 use Rattle.fields.specs.Fields.{kindOf, kindAt, typeOf, typeAt, finite, zeros, plainOk, sectionOk, comparesOk, obligationOk, literalOk, attributeOk, fieldOk, obligationsOf}
 use Rattle.fields.specs.Entries.{entryOk}
-use Rattle.placement.specs.Place.{endOf, parentOf, elderOf, depthOf, holdsConditions, singleOf, holdsValues, rankAt, elderRank, standsOk, valueType, isChild, isOperand, twoValues, comparableBy, operandsAt, childRule, childBroken, topOk, brokenAt, placeOk}
+use Rattle.operands.specs.Parent.{endOf, parentOf}
+use Rattle.operands.specs.Operands.{valueType, isChild, isOperand, twoValues, comparableBy, operandsAt}
+use Rattle.placement.specs.Place.{elderOf, depthOf, holdsConditions, singleOf, holdsValues, rankAt, elderRank, standsOk, childRule, childBroken, topOk, brokenAt, placeOk}
 use Rattle.judge.specs.Judge.{judgeRecords, judgeOf}
 use Rattle.judge.specs.Request.{judgeEntries, judgeRequestOf}
 use Rattle.judge.specs.declared.Judged.{Judged}

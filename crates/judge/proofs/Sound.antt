@@ -20,10 +20,13 @@ use Rattle.fields.specs.declared.Kind.{Kind}
 use Rattle.fields.specs.declared.Kind.the-variants.{PolicySet, Policy, Rule, Section, Conjunction, Match, Logic, Not, Comparison, Weighing, Obligation, Literal, Attribute, Operator, Nothing}
 use Rattle.fields.proofs.First.{by, last-ge, last-of}
 use Rattle.fields.proofs.Spans.{span-pos, category-pos}
-use Rattle.placement.specs.Place.{endOf, covers, parentOf, depthOf, kindNumber, singleOf, elderOf, elderRank, rankOf, rankAt, riseOf, underOk, standsAt, operandsAt, childBroken, topOk, brokenAt, placeOk}
+use Rattle.operands.specs.Parent.{endOf, covers, parentOf}
+use Rattle.operands.specs.Operands.{operandsAt}
+use Rattle.placement.specs.Place.{depthOf, kindNumber, singleOf, elderOf, elderRank, rankOf, rankAt, riseOf, underOk, standsAt, childBroken, topOk, brokenAt, placeOk}
 use Rattle.placement.specs.Keeps.{AllKeep, Sized, Keeps}
 use Rattle.judge.specs.Sound.{Nested, WholeRow, KeptNests, OneTree, stated, NoCut, DepthIs, AfterAll, Allowed, OkIsPlaced, PlacedIsOk, KeptInOrder}
-use Rattle.placement.proofs.Laws.{depth-under, ends-within, parent-ge, parent-of, kept-at, stands-parts, all-but, rule-zero}
+use Rattle.operands.proofs.Parent.{parent-ge, parent-of}
+use Rattle.placement.proofs.Laws.{depth-under, ends-within, kept-at, stands-parts, all-but, rule-zero}
 
 -- line 1 is a policy set or a policy, and covers all
 top-true : (t : Bool) → _≡_ {A = ℕ} (if t 0 9) 0 → t ≡ true

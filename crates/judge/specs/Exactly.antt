@@ -9,7 +9,8 @@ use Rattle.record.specs.Bytes.{size, mostRecords}
 use Rattle.record.specs.Refusals.{book, noRecord, cutShort, tooMany, badField, badPlace}
 use Rattle.record.specs.declared.Refusal.{Refusal}
 use Rattle.fields.specs.Fields.{fieldOk, obligationsOf}
-use Rattle.placement.specs.Place.{mostDepth, endOf, parentOf, depthOf, topOk, placeOk}
+use Rattle.operands.specs.Parent.{endOf, parentOf}
+use Rattle.placement.specs.Place.{mostDepth, depthOf, topOk, placeOk}
 use Rattle.placement.specs.Keeps.{AllKeep, FirstToBreak, Sized, Keeps}
 use Rattle.judge.specs.Judge.{judgeOf}
 use Rattle.judge.specs.Sound.{Allowed}

@@ -7,7 +7,9 @@ use Rattle.record.specs.Bytes.{byteOf, spanOf}
 use Rattle.record.specs.Forest.{Forest, none, node, growF, forest}
 use Rattle.fields.specs.Fields.{kindAt, fieldOk}
 use Rattle.fields.specs.declared.Kind.the-variants.{Match}
-use Rattle.placement.specs.Place.{mostDepth, endOf, parentOf, depthOf, kindNumber, takesOf, rankAt, riseOf, operandsAt, placeOk}
+use Rattle.operands.specs.Parent.{endOf, parentOf}
+use Rattle.operands.specs.Operands.{operandsAt}
+use Rattle.placement.specs.Place.{mostDepth, depthOf, kindNumber, takesOf, rankAt, riseOf, placeOk}
 use Rattle.placement.specs.Keeps.{AllKeep, Sized, Keeps}
 
 -- spans that nest: each is at least 1, ends within the book, and covers each record that it covers to its end; the first covers all

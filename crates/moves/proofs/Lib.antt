@@ -1,4 +1,3 @@
 pub mod Outcome
 pub mod Placings
 pub mod Levels
-pub mod PieceLaws

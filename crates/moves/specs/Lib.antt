@@ -1,3 +1,2 @@
 pub mod Core
 pub mod Moves
-pub mod Pieces

@@ -1,6 +1,5 @@
 // What a step does, put together: where it goes on, and what becomes of the stacks and the obligations.
 pub mod conditions;
-pub mod pieces;
 pub mod policies;
 pub mod targets;
 

@@ -15,37 +15,19 @@ use Rattle.record.proofs.Choose.{both-parts}
 use Rattle.fields.specs.First.{lastBelow, countBelow, firstFrom}
 use Rattle.fields.specs.Fields.{kindAt, fieldOk}
 use Rattle.fields.specs.declared.Kind.{Kind}
-use Rattle.fields.proofs.First.{by, last-is, last-ge, last-of, count-skip, count-one, count-same, first-none, first-here, first-next, first-le, first-past, first-in, first-all}
+use Rattle.fields.proofs.First.{by, last-is, last-ge, count-skip, count-one, count-same, first-none, first-here, first-next, first-le, first-past, first-in, first-all}
 use Rattle.fields.proofs.Spans.{span-pos}
-use Rattle.placement.specs.Place.{mostDepth, endOf, covers, parentOf, elderOf, depthOf, kindNumber, takesOf, riseOf, underOk, rankOf, rankAt, elderRank, standsOk, standsAt, operandsAt, childRule, childBroken, topOk, brokenAt, placeOk, ParentIs}
+use Rattle.operands.specs.Parent.{endOf, covers, parentOf}
+use Rattle.operands.specs.Operands.{operandsAt}
+use Rattle.placement.specs.Place.{mostDepth, elderOf, depthOf, kindNumber, takesOf, riseOf, underOk, rankOf, rankAt, elderRank, standsOk, standsAt, childRule, childBroken, topOk, brokenAt, placeOk}
+use Rattle.operands.proofs.Parent.{span-end, end-after, parent-ge, parent-of, parent-is-innermost}
 use Rattle.placement.specs.Walk.{Walk, Finds}
-
-pub span-end : (b : List ℕ) (i s : ℕ) → s ≡ spanOf b i → endOf b i ≡ i + s
-unfolding endOf
-span-end b i s e = rw e
-
-end-after : (b : List ℕ) (i : ℕ) → 1 ≤ spanOf b i → i < endOf b i
-unfolding endOf
-end-after b i h = omega arith
-
-pub parent-ge : (b : List ℕ) (j k : ℕ) → k < j → covers b j k ≡ true → k ≤ parentOf b j
-unfolding parentOf
-parent-ge b j k h e = last-ge (covers b j) j k h e
-
--- where some record covers j, its parent does
-pub parent-of : (b : List ℕ) (j k : ℕ) → k < j → covers b j k ≡ true → (j < endOf b (parentOf b j)) × (parentOf b j < j)
-unfolding parentOf
-parent-of b j k h e = let w = last-of (covers b j) j k h e in (ltb-true j _ (w .0), w .1)
 
 apart : (a c : ℕ) → (a ≡ c) ⊎ ((a < c) ⊎ (c < a))
 apart a c = by (ltb a c) (λ t. inr (inl (ltb-true a c t)))
     (λ t. ⊎-elim (λ (q : c ≡ a). inl (sym q)) (λ (q : c < a). inr (inr q)) (eq-or-lt-of-le (ltb-false a c t)))
 
--- where p covers i, and no record between does, p is the parent; i is one deeper where what covers p covers i
-pub parent-is-innermost : ParentIs
-unfolding parentOf
-parent-is-innermost b p i h c g = last-is (covers b i) i p h (lt-ltb i (endOf b p) c) (λ j a z. le-ltb i (endOf b j) (g j a z))
-
+-- where p covers i, and no record between does, i is one deeper where what covers p covers i
 pub depth-under : (b : List ℕ) (p i : ℕ) → p < i → i < endOf b p → ((j : ℕ) → p < j → j < i → endOf b j ≤ i)
     → ((j : ℕ) → j < p → p < endOf b j → i < endOf b j) → depthOf b i ≡ depthOf b p + 1
 unfolding depthOf

@@ -1,10 +1,9 @@
 -- The place rules, record by record, by the numbers of document 02, 1: 9 of line 1, 10 of the parent's end, 11 of what the parent allows at that place, of the
 -- category of a section or match and of the operands of document 02, 3, 12 of the depth. Assumes nothing.
-use Prim.Native.Nat.{ℕ, _+_, _/_, _%_, _≤_, _<_}
-use mathlib.Core.Path.{_≡_}
+use Prim.Native.Nat.{ℕ, _+_, _/_}
 use mathlib.Core.Bool.{Bool, true, false}
 use mathlib.Core.List.{List}
-use lib.Dec.{eqb, leb, ltb}
+use lib.Dec.{eqb, leb}
 use lib.ListN.{length}
 use Rattle.record.specs.Choose.{if, both, either, among}
 use Rattle.record.specs.Bytes.{size, byteOf, spanOf}
@@ -12,22 +11,12 @@ use Rattle.fields.specs.First.{lastBelow, countBelow}
 use Rattle.fields.specs.Fields.{kindAt}
 use Rattle.fields.specs.declared.Kind.{Kind}
 use Rattle.fields.specs.declared.Kind.the-variants.{PolicySet, Policy, Rule, Section, Conjunction, Match, Logic, Not, Comparison, Weighing, Obligation, Literal, Attribute, Operator, Nothing}
+use Rattle.operands.specs.Parent.{endOf, covers, parentOf}
+use Rattle.operands.specs.Operands.{operandsAt}
 
 -- nesting depth is at most this, line 1 being 1
 abbrev pub mostDepth : ℕ
 mostDepth = 16
-
--- the place after the last record of record j's subtree
-unfoldable pub endOf : List ℕ → ℕ → ℕ
-endOf b j = j + spanOf b j
-
--- the span of the earlier record j covers place i
-abbrev pub covers : List ℕ → ℕ → ℕ → Bool
-covers b i j = ltb i (endOf b j)
-
--- the parent: the innermost earlier record whose span covers the place
-unfoldable pub parentOf : List ℕ → ℕ → ℕ
-parentOf b i = lastBelow (covers b i) i
 
 -- the child before place i: the last earlier record whose parent is p; p itself where there is none
 unfoldable pub elderOf : List ℕ → ℕ → ℕ → ℕ
@@ -155,68 +144,6 @@ standsOk p k c e g = both (takesOf p k) (both (leb (e + riseOf p k) (rankOf k c)
 abbrev pub standsAt : List ℕ → ℕ → ℕ → Bool
 standsAt b p i = standsOk (kindNumber (kindAt b p)) (kindAt b i) (byteOf b i 4) (elderRank b p (elderOf b p i)) (byteOf b (parentOf b p) 4)
 
--- the type that an operator takes and gives, by its choice: 8 adds doubles, the others are of integers
-abbrev pub operatorType : ℕ → ℕ
-operatorType c = if (eqb c 8) 3 1
-
--- the type of a value: byte 5 of a literal or an attribute, an operator's own; 0 for a record that is no value
-abbrev pub typeBy : Kind → ℕ → ℕ → ℕ
-typeBy PolicySet t c = 0
-typeBy Policy t c = 0
-typeBy Rule t c = 0
-typeBy Section t c = 0
-typeBy Conjunction t c = 0
-typeBy Match t c = 0
-typeBy Logic t c = 0
-typeBy Not t c = 0
-typeBy Comparison t c = 0
-typeBy Weighing t c = 0
-typeBy Obligation t c = 0
-typeBy Literal t c = t
-typeBy Attribute t c = t
-typeBy Operator t c = operatorType c
-typeBy Nothing t c = 0
-
-unfoldable pub valueType : List ℕ → ℕ → ℕ
-valueType b i = typeBy (kindAt b i) (byteOf b i 5 % 128) (byteOf b i 1)
-
--- the children of record i: the later records whose parent it is
-unfoldable pub isChild : List ℕ → ℕ → ℕ → Bool
-isChild b i j = both (ltb i j) (eqb (parentOf b j) i)
-
-unfoldable pub isOperand : List ℕ → ℕ → ℕ → ℕ → Bool
-isOperand b i t j = both (isChild b i j) (eqb (valueType b j) t)
-
--- record i has two children, and both are values of type t
-unfoldable pub twoValues : List ℕ → ℕ → ℕ → Bool
-twoValues b i t = both (eqb (countBelow (isChild b i) (endOf b i)) 2) (eqb (countBelow (isOperand b i t) (endOf b i)) 2)
-
--- values of type t may be compared by choice c: names by 21 only
-unfoldable pub comparableBy : ℕ → ℕ → Bool
-comparableBy t c = if (eqb t 2) (eqb c 21) (ltb 0 t)
-
--- an operator has two values of its type, a comparison of values two of one type, t; nothing is asked of the children of other records here
-abbrev pub operandsOk : Kind → ℕ → ℕ → (ℕ → Bool) → Bool
-operandsOk PolicySet c t two = true
-operandsOk Policy c t two = true
-operandsOk Rule c t two = true
-operandsOk Section c t two = true
-operandsOk Conjunction c t two = true
-operandsOk Match c t two = true
-operandsOk Logic c t two = true
-operandsOk Not c t two = true
-operandsOk Comparison c t two = true
-operandsOk Weighing c t two = both (comparableBy t c) (two t)
-operandsOk Obligation c t two = true
-operandsOk Literal c t two = true
-operandsOk Attribute c t two = true
-operandsOk Operator c t two = two (operatorType c)
-operandsOk Nothing c t two = true
-
--- has record i the operands that it wants? the type of two that are compared is the first's, which stands next to it
-unfoldable pub operandsAt : List ℕ → ℕ → Bool
-operandsAt b i = operandsOk (kindAt b i) (byteOf b i 1) (valueType b (i + 1)) (twoValues b i)
-
 -- the lowest rule that a child breaks: 10 it runs past its parent's end, 11 it may not stand there or has not the operands that it wants, 12 it is too deep; 0 none
 unfoldable pub childRule : ℕ → ℕ → ℕ → Bool → ℕ
 childRule end top depth stands = if (leb end top) (if stands (if (leb depth mostDepth) 0 12) 11) 10
@@ -235,7 +162,3 @@ brokenAt b i = if (eqb i 0) (if (topOk b) 0 9) (childBroken b (parentOf b i) i)
 -- the place rules of record i
 unfoldable pub placeOk : List ℕ → ℕ → Bool
 placeOk b i = eqb (brokenAt b i) 0
-
--- claimed: the parent is the record before that covers the place, where none between does
-abbrev pub ParentIs : Type 0
-ParentIs = (b : List ℕ) (p i : ℕ) → p < i → i < endOf b p → ((j : ℕ) → p < j → j < i → endOf b j ≤ i) → parentOf b i ≡ p

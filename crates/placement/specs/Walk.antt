@@ -5,7 +5,8 @@ use mathlib.Core.List.{List}
 use Rattle.record.specs.Bytes.{byteOf, spanOf}
 use Rattle.fields.specs.First.{firstFrom}
 use Rattle.fields.specs.Fields.{kindAt}
-use Rattle.placement.specs.Place.{endOf, parentOf, depthOf, kindNumber, elderRank, placeOk, brokenAt}
+use Rattle.operands.specs.Parent.{endOf, parentOf}
+use Rattle.placement.specs.Place.{depthOf, kindNumber, elderRank, placeOk, brokenAt}
 
 -- p is the parent, e its end, d its depth, pn its number, pc its category, gc that of its parent, er the rank of the child before i; `elder` is that
 -- child, p where there is none

@@ -12,7 +12,8 @@ use Rattle.record.specs.Choose.{if}
 use Rattle.record.specs.Bytes.{spanOf}
 use Rattle.fields.specs.First.{countBelow, lastBelow, firstFrom}
 use Rattle.fields.proofs.First.{count-more, first-none, first-here, first-next}
-use Rattle.placement.specs.Place.{endOf, covers, depthOf, parentOf}
+use Rattle.operands.specs.Parent.{endOf, covers, parentOf}
+use Rattle.placement.specs.Place.{depthOf}
 use Rattle.show.specs.Phrase.{barAt, fewer, noBar, startOf, stopOf, phraseOf}
 
 pub covers-is : (b : List ℕ) (i j : ℕ) {s : ℕ} → s ≡ spanOf b j → ltb i (j + s) ≡ covers b i j

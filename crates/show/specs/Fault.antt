@@ -11,7 +11,8 @@ use Rattle.fields.specs.declared.Kind.{Kind}
 use Rattle.fields.specs.declared.Kind.the-variants.{PolicySet, Policy, Rule, Section, Conjunction, Match, Logic, Not, Comparison, Weighing, Obligation, Literal, Attribute, Operator, Nothing}
 use Rattle.fields.specs.declared.Sort.{Sort}
 use Rattle.fields.specs.declared.Sort.the-variants.{Integer, Name, Double, Other}
-use Rattle.placement.specs.Place.{endOf, parentOf, operandsAt}
+use Rattle.operands.specs.Parent.{endOf, parentOf}
+use Rattle.operands.specs.Operands.{operandsAt}
 
 -- field rules: kind, choice, span
 abbrev pub noKind : ℕ

@@ -300,7 +300,7 @@ fn has_operands(book: &[u8], i: usize) -> bool
     if book.len() < end * record::SIZE {
         return true;
     }
-    placement::operands_ok(book, i, end)
+    operands::operands_ok(book, i, end)
 }
 
 // The fault of record i, which its parent does not allow at that place, or which has not its operands.

@@ -4,7 +4,8 @@ ghost use mathlib.Core.Path.{_≡_};
 ghost use Prim.Native.Nat.{_+_, _*_, _≤_};
 ghost use lib.ListN.{length};
 ghost use Rattle.record.specs.Bytes.{size};
-ghost use Rattle.placement.specs.Place.{covers, depthOf, parentOf};
+ghost use Rattle.operands.specs.Parent.{covers, parentOf};
+ghost use Rattle.placement.specs.Place.{depthOf};
 
 // Whether the span of the earlier record j covers record i.
 fn covers(book: &[u8], i: usize, j: usize) -> bool

@@ -11,11 +11,13 @@ use Rattle.record.specs.Bytes.{byteOf, spanOf}
 use Rattle.record.proofs.Choose.{both-parts}
 use Rattle.fields.specs.Fields.{kindAt, fieldOk}
 use Rattle.fields.proofs.First.{by, first-reach-all}
-use Rattle.placement.specs.Place.{kindNumber, rankAt, standsOk, operandsAt, childRule, brokenAt, placeOk}
+use Rattle.operands.specs.Operands.{operandsAt}
+use Rattle.placement.specs.Place.{kindNumber, rankAt, standsOk, childRule, brokenAt, placeOk}
 use Rattle.placement.specs.Walk.{Walk}
 use Rattle.grammar.specs.Row.{Row}
 use Rattle.placement.specs.Keeps.{Sized, Keeps}
-use Rattle.placement.proofs.Laws.{span-end, rule-is, rule-none, stands-parts, Passed, passed, bounds, kids, rest, top-walk}
+use Rattle.operands.proofs.Parent.{span-end}
+use Rattle.placement.proofs.Laws.{rule-is, rule-none, stands-parts, Passed, passed, bounds, kids, rest, top-walk}
 use Rattle.grammar.proofs.Rows.{operandsOf, row-none, row-then, row-child}
 use Rattle.judge.proofs.Sound.{top-kept}
 use Rattle.structure.specs.Sound.{Parent, asParent, lineOne, soundAt}

@@ -14,7 +14,8 @@ use Rattle.fields.specs.Fields.{kindAt, typeOf, finite, valueOk, zeros, literal
 use Rattle.fields.specs.declared.Kind.{Kind}
 use Rattle.fields.specs.declared.Kind.the-variants.{PolicySet, Policy, Rule, Section, Conjunction, Match, Logic, Not, Comparison, Weighing, Obligation, Literal, Attribute, Operator, Nothing}
 use Rattle.fields.proofs.First.{by}
-use Rattle.placement.specs.Place.{kindNumber, typeBy, valueType}
+use Rattle.operands.specs.Operands.{typeBy, valueType}
+use Rattle.placement.specs.Place.{kindNumber}
 use Rattle.grammar.specs.Row.{Fit, isFit}
 use Rattle.grammar.proofs.Fits.{unlisted}
 

@@ -13,9 +13,10 @@ use Rattle.fields.specs.Fields.{kindAt}
 use Rattle.fields.specs.declared.Kind.{Kind}
 use Rattle.fields.specs.declared.Kind.the-variants.{PolicySet, Policy, Rule, Section, Conjunction, Match, Logic, Not, Comparison, Weighing, Obligation, Literal, Attribute, Operator, Nothing}
 use Rattle.fields.proofs.First.{by}
-use Rattle.placement.specs.Place.{endOf, valueType, isChild, isOperand, twoValues, comparableBy, operandsOk, operandsAt, operatorType}
-use Rattle.placement.proofs.Laws.{span-end}
-use Rattle.placement.proofs.Operands.{child-is, operand-only, operand-is, count-before, count-over}
+use Rattle.operands.specs.Parent.{endOf}
+use Rattle.operands.specs.Operands.{valueType, isChild, isOperand, twoValues, comparableBy, operandsOk, operandsAt, operatorType}
+use Rattle.operands.proofs.Parent.{span-end}
+use Rattle.operands.proofs.Operands.{child-is, operand-only, operand-is, count-before, count-over}
 use Rattle.structure.specs.Subtrees.{Subtrees, noSubtree, subtree, recordAt, subtreesOf}
 use Rattle.structure.specs.Sound.{Parent, asParent, firstType, twoOf, operandsIn, soundAt}
 use Rattle.structure.proofs.Records.{record-but-span, kind-same, choice-byte, type-same}

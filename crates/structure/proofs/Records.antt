@@ -17,7 +17,8 @@ use Rattle.record.proofs.Table.{length-tab, getD-tab}
 use Rattle.fields.specs.Fields.{kindAt, typeAt, finite, zeros, plainOk, sectionOk, comparesOk, obligationOk, literalOk, attributeOk, rulesOf, fieldOk}
 use Rattle.fields.specs.declared.Kind.{Kind}
 use Rattle.fields.specs.declared.Kind.the-variants.{PolicySet, Policy, Rule, Section, Conjunction, Match, Logic, Not, Comparison, Weighing, Obligation, Literal, Attribute, Operator, Nothing}
-use Rattle.placement.specs.Place.{mostDepth, kindNumber, rankAt, standsOk, valueType}
+use Rattle.operands.specs.Operands.{valueType}
+use Rattle.placement.specs.Place.{mostDepth, kindNumber, rankAt, standsOk}
 use Rattle.structure.specs.Subtrees.{recordAt, SameRecord, SameButSpan}
 use Rattle.structure.specs.Sound.{Parent, asParent, lineOne, recordOk, childOk}
 

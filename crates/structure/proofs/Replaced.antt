@@ -12,8 +12,10 @@ use Rattle.record.specs.Bytes.{spanOf}
 use Rattle.fields.specs.Fields.{kindAt}
 use Rattle.fields.specs.declared.Kind.{Kind}
 use Rattle.fields.proofs.First.{by}
-use Rattle.placement.specs.Place.{endOf, parentOf, kindNumber, rankAt}
-use Rattle.placement.proofs.Laws.{parent-ge, top-ok}
+use Rattle.operands.specs.Parent.{endOf, parentOf}
+use Rattle.placement.specs.Place.{kindNumber, rankAt}
+use Rattle.operands.proofs.Parent.{parent-ge}
+use Rattle.placement.proofs.Laws.{top-ok}
 use Rattle.judge.proofs.Sound.{top-kept}
 use Rattle.structure.specs.Subtrees.{subtreesOf, SameRecords}
 use Rattle.structure.specs.Sound.{Parent, lineOne, rankAfter, soundAt}

@@ -15,7 +15,8 @@ use Rattle.fields.specs.Fields.{kindAt, fieldOk}
 use Rattle.fields.specs.declared.Kind.{Kind}
 use Rattle.fields.proofs.First.{by}
 use Rattle.placement.specs.Place.{rankOf, rankAt, standsOk}
-use Rattle.placement.proofs.Laws.{span-end, stands-parts, all-but}
+use Rattle.operands.proofs.Parent.{span-end}
+use Rattle.placement.proofs.Laws.{stands-parts, all-but}
 use Rattle.structure.specs.Subtrees.{Subtrees, noSubtree, subtree, recordCount, recordAt, subtreesOf, joined, SameRecord}
 use Rattle.structure.specs.Sound.{Parent, asParent, recordOk, childOk, operandsIn, sound, rankAfter, soundAt}
 use Rattle.structure.proofs.Records.{MayStand, record-bytes, record-length, record-but-span, record-parts, parts-record, child-parts, parts-child, heads-same, stand-same, rank-same, parent-same}

@@ -8,7 +8,7 @@ use lib.Seq.{ext-getD}
 use Rattle.record.specs.Bytes.{size, spanOf}
 use Rattle.record.specs.Forest.{spanIn}
 use Rattle.record.proofs.Forests.{span-pos, span-le, span-stated, forest-none, forest-step}
-use Rattle.placement.specs.Place.{endOf}
+use Rattle.operands.specs.Parent.{endOf}
 use Rattle.structure.specs.Subtrees.{Subtrees, noSubtree, subtree, recordCount, recordAt, subtreesIn, subtreesOf, joined, SameRecord, SameRecords}
 use Rattle.structure.proofs.Records.{span-same, record-bytes, record-length}
 

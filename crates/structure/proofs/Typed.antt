@@ -25,7 +25,8 @@ use Rattle.meaning.specs.Reading.{isKind, isParty, keyAt, testAt, notAt, operat
 use Rattle.meaning.specs.Typed.{Typed, TypedCondition, TypedConditions, TypedWhen, TypedRules, TypedTree, TypedTrees}
 use Rattle.meaning.proofs.Keys.{key-of-record}
 use Rattle.meaning.proofs.Typed.{eight}
-use Rattle.placement.specs.Place.{kindNumber, valueType, operatorType, comparableBy, operandsOk}
+use Rattle.operands.specs.Operands.{valueType, operatorType, comparableBy, operandsOk}
+use Rattle.placement.specs.Place.{kindNumber}
 use Rattle.judge.proofs.Sound.{top-kept}
 use Rattle.judge.proofs.Exactly.{accepted-keeps}
 use Rattle.structure.specs.Subtrees.{recordAt, subtreesIn, subtreesOf}

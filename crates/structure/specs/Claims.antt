@@ -10,7 +10,8 @@ use Rattle.record.specs.Bytes.{Bytes, size, mostRecords, spanOf}
 use Rattle.record.specs.Forest.{forest, height}
 use Rattle.fields.specs.Fields.{kindAt, obligationsOf}
 use Rattle.fields.specs.declared.Kind.the-variants.{PolicySet, Obligation}
-use Rattle.placement.specs.Place.{mostDepth, parentOf, kindNumber, rankOf, rankAt}
+use Rattle.operands.specs.Parent.{parentOf}
+use Rattle.placement.specs.Place.{mostDepth, kindNumber, rankOf, rankAt}
 use Rattle.judge.specs.Judge.{judgeOf}
 use Rattle.placement.specs.Keeps.{Sized, Keeps}
 use Rattle.judge.specs.declared.Judged.the-variants.{Accepted}

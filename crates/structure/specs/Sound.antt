@@ -9,7 +9,8 @@ use lib.ListN.{length}
 use Rattle.record.specs.Choose.{both, among}
 use Rattle.record.specs.Bytes.{size, byteOf, spanOf}
 use Rattle.fields.specs.Fields.{kindAt, fieldOk}
-use Rattle.placement.specs.Place.{mostDepth, kindNumber, rankAt, standsOk, valueType, operandsOk, placeOk}
+use Rattle.operands.specs.Operands.{valueType, operandsOk}
+use Rattle.placement.specs.Place.{mostDepth, kindNumber, rankAt, standsOk, placeOk}
 use Rattle.placement.specs.Keeps.{Sized}
 use Rattle.structure.specs.Subtrees.{Subtrees, noSubtree, subtree, recordCount, subtreesOf, sliceOf}
 

@@ -12,7 +12,7 @@ use Rattle.meaning.specs.Policy.{Expr}
 use Rattle.meaning.specs.Meaning.{typeOf}
 use Rattle.meaning.specs.Reading.{exprsIn, bookOf}
 use Rattle.meaning.specs.Typed.{Typed, TypedTree}
-use Rattle.placement.specs.Place.{operatorType, comparableBy}
+use Rattle.operands.specs.Operands.{operatorType, comparableBy}
 use Rattle.placement.specs.Keeps.{Keeps}
 use Rattle.judge.specs.Judge.{judgeOf}
 use Rattle.judge.specs.declared.Judged.the-variants.{Accepted}

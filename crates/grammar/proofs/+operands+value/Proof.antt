@@ -16,7 +16,7 @@ use Rattle.grammar.proofs.+operands+value.Lts-value as value-lts
 use Rattle.grammar.proofs.kept.is_attribute.Reads as is-attribute-reads
 use Rattle.grammar.proofs.kept.is_literal.Reads as is-literal-reads
 use Rattle.grammar.proofs.kept.is_operator.Reads as is-operator-reads
-use Rattle.placement.proofs.value_type.Reads as value-type-reads
+use Rattle.operands.proofs.value_type.Reads as value-type-reads
 use Rattle.record.proofs.span.Reads as span-reads
 use Rattle.grammar.proofs.+operands+value.{statement}
 use Rattle.grammar.proofs.+operands+value.Tie.{close}

@@ -1,5 +1,5 @@
 use Rattle.show.specs.Fault.{hasOperands}
-use Rattle.placement.specs.Place.{endOf}
+use Rattle.operands.specs.Parent.{endOf}
 use borrow.Author.Tests.{lt-ltb, le-ltb, eq-eqb, ne-eqb}
 use borrow.Author.Needs.{needs}
 use Rattle.show.proofs.faults.has_operands.Statement.{statement}

@@ -1,5 +1,5 @@
 use Rattle.show.proofs.Laws.{count-none, depth-more, depth-end}
-use Rattle.placement.specs.Place.{covers}
+use Rattle.operands.specs.Parent.{covers}
 use Rattle.fields.specs.First.{countBelow}
 use Prim.Native.Nat.{_≤_, _-_}
 use mathlib.Core.Path.{_≡_}

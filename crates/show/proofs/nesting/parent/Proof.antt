@@ -1,5 +1,5 @@
 use Rattle.show.proofs.Laws.{last-none, parent-more, parent-end}
-use Rattle.placement.specs.Place.{covers}
+use Rattle.operands.specs.Parent.{covers}
 use Rattle.fields.specs.First.{lastBelow}
 use Prim.Native.Nat.{_≤_, _-_}
 use mathlib.Core.Path.{_≡_}

@@ -1,0 +1,3 @@
+pub mod Lookahead
+pub mod Operands
+pub mod Parent
