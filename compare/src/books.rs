@@ -138,6 +138,8 @@ struct Generator<'r> {
     identifiers: Vec<u16>,
     /// The literals of each type.
     literals: [Vec<[u8; 8]>; 3],
+    /// The records that second operands, still to come, take at least.
+    kept: usize,
     book: Book,
 }
 
@@ -281,12 +283,12 @@ impl<'r> Generator<'r> {
         let literals = [INTEGER, NAME, DOUBLE]
             .map(|value_type| (0..random.between(1, 4)).map(|_| value(random, value_type)).collect());
         let book = Book { records: Vec::new(), wishes: Vec::new() };
-        Generator { random, style, identifiers, literals, book }
+        Generator { random, style, identifiers, literals, kept: 0, book }
     }
 
     /// The records that may still come.
     fn room(&self) -> usize {
-        self.style.limit.saturating_sub(self.book.records.len())
+        self.style.limit.saturating_sub(self.book.records.len() + self.kept)
     }
 
     fn open(&mut self, kind: u8, choice: usize) -> usize {
@@ -444,18 +446,30 @@ impl<'r> Generator<'r> {
             let some = borders::some_value(self.random, value_type);
             let other = borders::near(self.random, sum.result.unwrap_or(some));
             if self.random.chance(50) {
-                self.operation(depth + 1, &sum);
+                self.keeping(1, |generator| generator.operation(depth + 1, &sum));
                 self.operand(depth + 1, 1, other);
             } else {
-                self.operand(depth + 1, 0, other);
+                self.keeping(3, |generator| generator.operand(depth + 1, 0, other));
                 self.operation(depth + 1, &sum);
             }
         } else {
             let values = borders::to_compare(self.random, value_type);
-            self.operand(depth + 1, 0, values[0]);
-            self.operand(depth + 1, 1, values[1]);
+            self.operands(depth + 1, values);
         }
         self.close(comparison);
+    }
+
+    /// Two operands that have these values.
+    fn operands(&mut self, depth: usize, [first, second]: [Value; 2]) {
+        self.keeping(1, |generator| generator.operand(depth, 0, first));
+        self.operand(depth, 1, second);
+    }
+
+    /// Makes a first operand, and leaves room for a second of so many records.
+    fn keeping(&mut self, records: usize, first: impl FnOnce(&mut Self)) {
+        self.kept += records;
+        first(self);
+        self.kept -= records;
     }
 
     /// A first or a second operand that has this value if attributes have those wished for.
@@ -475,8 +489,7 @@ impl<'r> Generator<'r> {
 
     fn operation(&mut self, depth: usize, sum: &Sum) {
         let operation = self.open(VALUE, usize::from(sum.operator.choice()));
-        self.operand(depth + 1, 0, sum.operands[0]);
-        self.operand(depth + 1, 1, sum.operands[1]);
+        self.operands(depth + 1, sum.operands);
         self.close(operation);
     }
 
@@ -499,5 +512,21 @@ impl<'r> Generator<'r> {
         attribute.0[6..8].copy_from_slice(&identifier.to_be_bytes());
         self.book.records.push(attribute);
         self.book.wishes.push(Entry::new(category, value.value_type(), identifier, value.bytes()));
+    }
+}
+
+#[cfg(test)]
+mod tests {
+    use super::*;
+
+    #[test]
+    fn no_book_is_larger_than_its_limit() {
+        for case in 0..20_000 {
+            let random = &mut Random::of_case(20, case);
+            let limit = random.between(1, 40);
+            let small = Style::small(random);
+            let style = Style { limit, fill: true, ..Style::of_sums(random, small) };
+            assert!(generate(random, style).records.len() <= limit, "case {case}");
+        }
     }
 }

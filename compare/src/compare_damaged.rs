@@ -1,7 +1,7 @@
 //! Ticks on damaged programmes and states: whatever they hold, every tick keeps to document 01.
 
 use crate::bench::{Bench, Left, Machine, MOST_ENTRIES, PLACES};
-use crate::compare_ticks::{some_book, translate};
+use crate::compare_ticks::{programme_of, some_book};
 use crate::random::Random;
 use crate::record::{book_bytes, request_bytes};
 use crate::refusal::{refuse, Part};
@@ -91,11 +91,8 @@ fn outside(
 fn sound_programme(machine: &Machine, random: &mut Random) -> Result<(Vec<u64>, Vec<u8>), Difference> {
     let book = some_book(random);
     let request = request_bytes(&requests::request(random, &book));
-    loop {
-        if let Some(programme) = translate(machine.rig, random, &book_bytes(&book.records), &mut Tally::default())? {
-            return Ok((programme, request));
-        }
-    }
+    let programme = programme_of(machine.rig, random, &book_bytes(&book.records), &mut Tally::default())?;
+    Ok((programme, request))
 }
 
 /// The fresh state, or one in the middle or at the end of the run.

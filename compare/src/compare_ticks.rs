@@ -49,11 +49,7 @@ pub fn case(machine: &Machine, random: &mut Random, tally: &mut Tally) -> Result
     let made = some_book(random);
     let request = request_bytes(&requests::request(random, &made));
     let book = book_bytes(&made.records);
-    let programme = loop {
-        if let Some(programme) = translate(machine.rig, random, &book, tally)? {
-            break programme;
-        }
-    };
+    let programme = programme_of(machine.rig, random, &book, tally)?;
     tally.add("totals", "records".into(), made.records.len() as u64);
     tally.add("totals", "entries".into(), programme.len() as u64);
     Run { machine, book: &book, bench: Bench::new(machine.rig, &programme, &request) }.check(random, tally)
@@ -70,8 +66,25 @@ pub fn some_book(random: &mut Random) -> Book {
 /// Entries for each record of a book, at most: what is promised of every programme, well below 8n + 8.
 const MOST_A_RECORD: usize = 4;
 
+/// The programme of a sound book. Where the room that is drawn is too short, another is.
+pub fn programme_of(
+    rig: &dyn Rig,
+    random: &mut Random,
+    book: &[u8],
+    tally: &mut Tally,
+) -> Result<Vec<u64>, Difference> {
+    if judge::book(book).is_err() {
+        return Err(format!(" a book that should be sound is not\n book {}", hex(book)));
+    }
+    loop {
+        if let Some(programme) = translate(rig, random, book, tally)? {
+            return Ok(programme);
+        }
+    }
+}
+
 /// Translates: the programme, or nothing where the call is rightly refused.
-pub fn translate(
+fn translate(
     rig: &dyn Rig,
     random: &mut Random,
     book: &[u8],

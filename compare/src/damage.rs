@@ -411,7 +411,7 @@ fn spoil(random: &mut Random, records: &mut Vec<Record>, taker: usize) {
         }
         _ => {
             let (kind, category) = (random.pick(&KINDS[..8]), random.between(1, 4) as u8);
-            let other = subtree(random, kind, category);
+            let other = if random.chance(15) { comparison_of_values(random) } else { subtree(random, kind, category) };
             replace_subtree(records, taker, at, &other);
         }
     }
