@@ -183,7 +183,7 @@ static uint64_t about(unsigned limit)
 /* A first number with every field within its limits, most of the time. */
 static uint64_t random_first(size_t length)
 {
-    uint64_t cut = roll(&dice, 1001), rest = random_number() % 512;
+    uint64_t cut = roll(&dice, 1001), rest = random_number() % 1024;
     return roll(&dice, (unsigned)length) | about(16) << 13 | about(14) << 18 | about(1000) << 22 |
            about(1000 - (unsigned)cut) << 32 | cut << 42 | rest << 52;
 }

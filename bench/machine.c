@@ -49,6 +49,11 @@ uint64_t tick(const struct machine *machine, const struct programme *programme, 
                          state->places, BACHUMOI_PLACES, budget, out, BACHUMOI_PLACES);
 }
 
+uint64_t as_decided(uint64_t number)
+{
+    return (number & 0xFFFFFF) | (number >> 24 & 255) << 40;
+}
+
 /* Ends the program unless out is as fill left it. */
 static void is_untouched(const uint16_t *out)
 {
@@ -78,8 +83,8 @@ uint64_t run(const struct machine *machine, const struct programme *programme, c
         *steps += took;
         switch (bachumoi_answer(number)) {
         case BACHUMOI_RUNNING:
-            if (took != budget)
-                wrong("a tick that is running did not take its budget", "run");
+            if (number != budget << 32)
+                wrong("a tick that is running did not take its budget, or says more", "run");
             is_untouched(out);
             break;
         case BACHUMOI_PERMIT:
@@ -88,7 +93,7 @@ uint64_t run(const struct machine *machine, const struct programme *programme, c
         case BACHUMOI_INDETERMINATE:
             if (took > budget || *steps < 1 || *steps > programme->length)
                 wrong("too many steps, or none", "run");
-            return number & 0xFFFFFFFF;
+            return as_decided(number);
         case BACHUMOI_REFUSED:
             wrong("a tick is refused", "run");
         }

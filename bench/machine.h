@@ -37,6 +37,9 @@ void fresh(const struct machine *machine, struct state *state);
 uint64_t tick(const struct machine *machine, const struct programme *programme, const uint8_t *request,
               size_t request_len, struct state *state, uint64_t budget, uint16_t *out);
 
+/* A finished tick's number as bachumoi_decide would give it: without steps, and with the code where that has it. */
+uint64_t as_decided(uint64_t number);
+
 /* Runs a request from the fresh state to its end, with steps dealt out by chance, zeros among them; without dice,
  * all in one tick. Returns what bachumoi_decide would; obligations in out, steps taken in *steps. Ends the program
  * if a tick takes other than its budget before the end, or touches out, or the run takes no step or more than

@@ -241,7 +241,34 @@ uint64_t plain_judge_request(const uint8_t *request, size_t request_len)
 
 /* ---- Deciding an accepted book ---------------------------------------------------------------------------- */
 
-enum truth { FALSE, TRUE, UNKNOWN };
+/* An Indeterminate truth is TRUE + its status, an Indeterminate answer NOT_APPLICABLE + its status. */
+enum truth { FALSE, TRUE, MISSING, FAILED };
+
+static inline enum truth unknown(enum status why)
+{
+    return (enum truth)(TRUE + why);
+}
+
+static inline bool is_unknown(enum truth truth)
+{
+    return truth > TRUE;
+}
+
+static inline unsigned indeterminate(enum status why)
+{
+    return NOT_APPLICABLE + why;
+}
+
+static inline enum status status_of(unsigned answer)
+{
+    return answer > NOT_APPLICABLE ? (enum status)(answer - NOT_APPLICABLE) : NO_STATUS;
+}
+
+/* The answer of a record whose target or condition is so, and not TRUE. */
+static inline unsigned answer_without(enum truth truth)
+{
+    return truth == FALSE ? NOT_APPLICABLE : indeterminate((enum status)(truth - TRUE));
+}
 
 /* The request, and the obligations put so far. */
 struct call {
@@ -270,40 +297,29 @@ static enum truth match(const struct call *call, const uint8_t *record)
                 return TRUE;
             found = true;
         }
-    return found || record[5] < MUST_BE_PRESENT ? FALSE : UNKNOWN;
+    return found || record[5] < MUST_BE_PRESENT ? FALSE : MISSING;
 }
 
-/* The entry of a record's bag; NULL unless it has exactly one. */
-static const uint8_t *one_and_only(const struct call *call, const uint8_t *record)
+static struct value attribute(const struct call *call, const uint8_t *record)
 {
-    uint32_t key = key_of(record);
-    const uint8_t *only = NULL;
-    for (const uint8_t *entry = call->request; entry != call->request_end; entry += SIZE)
-        if (has_key(entry, key)) {
-            if (only)
-                return NULL;
-            only = entry;
-        }
-    return only;
+    return one_and_only(call->request, call->request_end, key_of(record));
 }
 
 static enum truth comparison(const struct call *call, const uint8_t *record)
 {
-    const uint8_t *only = one_and_only(call, record);
-    if (!only)
-        return UNKNOWN;
-    return holds(record[1] - COMPARISON, only[1], big8(record + 8), big8(only + 8)) ? TRUE : FALSE;
+    struct value its = attribute(call, record);
+    if (its.lost)
+        return unknown(its.lost);
+    return holds(record[1] - COMPARISON, record[5] & ~MUST_BE_PRESENT, big8(record + 8), its.bytes) ? TRUE : FALSE;
 }
 
 static struct value value_of(const struct call *call, const uint8_t *record)
 {
     LOOK();
     if (record[1] == LITERAL)
-        return (struct value){ true, big8(record + 8) };
-    if (record[1] == ATTRIBUTE) {
-        const uint8_t *only = one_and_only(call, record);
-        return (struct value){ only != NULL, only ? big8(only + 8) : 0 };
-    }
+        return known(big8(record + 8));
+    if (record[1] == ATTRIBUTE)
+        return attribute(call, record);
     const uint8_t *first = record + SIZE;
     struct value a = value_of(call, first), b = value_of(call, after(first));
     return operate(record[1], a, b);
@@ -313,8 +329,9 @@ static enum truth comparison_of_values(const struct call *call, const uint8_t *r
 {
     const uint8_t *first = record + SIZE;
     struct value a = value_of(call, first), b = value_of(call, after(first));
-    if (!a.known || !b.known)
-        return UNKNOWN;
+    enum status why = first_of(a.lost, b.lost);
+    if (why)
+        return unknown(why);
     return holds(record[1] - COMPARISON_OF_VALUES, type_of(first), a.bytes, b.bytes) ? TRUE : FALSE;
 }
 
@@ -328,15 +345,15 @@ static enum truth condition(const struct call *call, const uint8_t *record)
         return comparison(call, record);
     if (record[1] == NOT) {
         enum truth truth = condition(call, part);
-        return truth == UNKNOWN ? UNKNOWN : truth == TRUE ? FALSE : TRUE;
+        return is_unknown(truth) ? truth : truth == TRUE ? FALSE : TRUE;
     }
     enum truth settles = record[1] == AND ? FALSE : TRUE, answer = record[1] == AND ? TRUE : FALSE;
     for (; part != end; part = after(part)) {
         enum truth truth = condition(call, part);
         if (truth == settles)
             return settles;
-        if (truth == UNKNOWN)
-            answer = UNKNOWN;
+        if (is_unknown(truth) && !is_unknown(answer))
+            answer = truth;
     }
     return answer;
 }
@@ -349,8 +366,8 @@ static enum truth conjunction(const struct call *call, const uint8_t *record)
         enum truth truth = match(call, part);
         if (truth == FALSE)
             return FALSE;
-        if (truth == UNKNOWN)
-            answer = UNKNOWN;
+        if (answer == TRUE)
+            answer = truth;
     }
     return answer;
 }
@@ -363,21 +380,21 @@ static enum truth section(const struct call *call, const uint8_t *record)
         enum truth truth = conjunction(call, part);
         if (truth == TRUE)
             return TRUE;
-        if (truth == UNKNOWN)
-            answer = UNKNOWN;
+        if (answer == FALSE)
+            answer = truth;
     }
     return answer;
 }
 
 /* The target of a record that ends at end: TRUE is Match, FALSE No-match. Moves *child, its first child, past the
- * sections, unless the target is UNKNOWN. */
+ * sections, unless the target is Indeterminate. */
 static enum truth target(const struct call *call, const uint8_t **child, const uint8_t *end)
 {
     enum truth answer = TRUE;
     for (; *child != end && **child == SECTION; *child = after(*child)) {
         enum truth truth = section(call, *child);
-        if (truth == UNKNOWN)
-            return UNKNOWN;
+        if (is_unknown(truth))
+            return truth;
         if (truth == FALSE)
             answer = FALSE;
     }
@@ -391,32 +408,31 @@ static unsigned rule(const struct call *call, const uint8_t *record)
     enum truth truth = target(call, &child, end);
     if (truth == TRUE && child != end)
         truth = condition(call, child);
-    return truth == TRUE ? record[1] : truth == FALSE ? NOT_APPLICABLE : INDETERMINATE;
+    return truth == TRUE ? record[1] : answer_without(truth);
 }
 
 /* The algorithm of a policy over its rules. */
 static unsigned over_rules(const struct call *call, unsigned algorithm, const uint8_t *child, const uint8_t *end)
 {
     unsigned wins = algorithm == DENY_OVERRIDES ? DENY : PERMIT;
-    bool feared = false, other = false, unsure = false;
+    unsigned unsure = NOT_APPLICABLE; /* or the first that is Indeterminate */
+    bool feared = false, other = false;
     for (; child != end && *child == RULE; child = after(child)) {
         unsigned answer = rule(call, child);
         if (answer == NOT_APPLICABLE)
             continue;
         if (algorithm == FIRST_APPLICABLE || answer == wins)
             return answer;
-        if (answer != INDETERMINATE)
+        if (!status_of(answer))
             other = true;
-        else if (child[1] == wins)
-            feared = true;
-        else
-            unsure = true;
+        else if (unsure == NOT_APPLICABLE)
+            unsure = answer;
+        if (child[1] == wins)
+            feared = true; /* it is Indeterminate, since it did not win */
     }
-    if (feared)
-        return INDETERMINATE;
-    if (other)
+    if (other && !feared)
         return wins == DENY ? PERMIT : DENY;
-    return unsure ? INDETERMINATE : NOT_APPLICABLE;
+    return unsure;
 }
 
 static unsigned policy_or_set(struct call *call, const uint8_t *record);
@@ -442,12 +458,14 @@ static unsigned only_one(struct call *call, const uint8_t *child, const uint8_t 
         const uint8_t *first = child + SIZE;
         LOOK();
         enum truth truth = target(call, &first, after(child));
-        if (truth == UNKNOWN || (truth == TRUE && chosen))
-            return INDETERMINATE;
-        if (truth == TRUE) {
-            chosen = child;
-            body = first;
-        }
+        if (truth == FALSE)
+            continue;
+        if (truth != TRUE)
+            return answer_without(truth);
+        if (chosen)
+            return indeterminate(PROCESSING_ERROR);
+        chosen = child;
+        body = first;
     }
     return chosen ? matched(call, chosen, body, after(chosen)) : NOT_APPLICABLE;
 }
@@ -466,11 +484,11 @@ static unsigned over_policies(struct call *call, unsigned algorithm, const uint8
             continue;
         if (algorithm == FIRST_APPLICABLE)
             return answer;
-        if (answer == wins || (answer == INDETERMINATE && wins == DENY)) {
+        if (answer == wins || (status_of(answer) && wins == DENY)) {
             keep(call, from, before);
             return wins;
         }
-        if (answer != INDETERMINATE || others == NOT_APPLICABLE)
+        if (!status_of(answer) || others == NOT_APPLICABLE)
             others = answer;
     }
     return others;
@@ -500,9 +518,7 @@ static unsigned policy_or_set(struct call *call, const uint8_t *record)
     const uint8_t *child = record + SIZE, *end = after(record);
     LOOK();
     enum truth truth = target(call, &child, end);
-    if (truth == TRUE)
-        return matched(call, record, child, end);
-    return truth == FALSE ? NOT_APPLICABLE : INDETERMINATE;
+    return truth == TRUE ? matched(call, record, child, end) : answer_without(truth);
 }
 
 uint64_t plain_decide(const uint8_t *book, size_t book_len, const uint8_t *request, size_t request_len,
@@ -518,8 +534,9 @@ uint64_t plain_decide(const uint8_t *book, size_t book_len, const uint8_t *reque
         return refusal(7, OF_OUTPUT, 0);
 
     struct call call = { request, request + request_len, out, 0 };
-    unsigned decision = policy_or_set(&call, book);
+    unsigned answer = policy_or_set(&call, book);
     if (out_len > 2 * call.count)
         memset(out + 2 * call.count, 0, out_len - 2 * call.count);
-    return decision + 256 * (uint64_t)call.count;
+    enum status status = status_of(answer);
+    return (status ? INDETERMINATE : answer) + 256 * (uint64_t)call.count + ((uint64_t)status << 40);
 }

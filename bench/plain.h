@@ -1,6 +1,6 @@
 /* Judging and deciding in plain C, as documents 01 and 02 say and without a proof: the yardstick of the benchmark.
  *
- * The numbers are those of include/bachumoi.h: decision + 256 x count, or
+ * The numbers are those of include/bachumoi.h: decision + 256 x count + 1,099,511,627,776 x code, or
  * 255 + 256 x number + 65,536 x line + 4,294,967,296 x part for a refusal.
  */
 #ifndef PLAIN_H

@@ -1,5 +1,5 @@
 /* What the plain C of the benchmark shares: the papers' numbers for kinds and choices, big-endian numbers, refusals,
- * how two values compare, and what an operator gives of them. */
+ * how two values compare, what an operator gives of them, and the one value of a bag. */
 #ifndef PLAIN_BYTES_H
 #define PLAIN_BYTES_H
 
@@ -17,6 +17,7 @@ enum { LITERAL = 1, ATTRIBUTE, ADD, SUBTRACT, MULTIPLY, DIVIDE, REMAINDER, DOUBL
 enum { NEVER, EQUAL, GREATER, GREATER_OR_EQUAL, LESS, LESS_OR_EQUAL };
 enum { INTEGER = 1, NAME, DOUBLE, MUST_BE_PRESENT = 128 };
 enum { PERMIT = 1, DENY, NOT_APPLICABLE, INDETERMINATE };
+enum status { NO_STATUS, MISSING_ATTRIBUTE, PROCESSING_ERROR };
 enum { OF_BOOK = 1, OF_REQUEST, OF_OUTPUT, OF_RUN };
 
 static inline uint64_t refusal(unsigned number, unsigned part, size_t line)
@@ -110,43 +111,73 @@ static inline unsigned type_of(const uint8_t *record)
     return record[1] <= ATTRIBUTE ? record[5] & ~MUST_BE_PRESENT : record[1] == DOUBLE_ADD ? DOUBLE : INTEGER;
 }
 
-/* A value as its eight bytes; Indeterminate where it is not known. */
+/* Of several parts that are Indeterminate the first counts. */
+static inline enum status first_of(enum status first, enum status second)
+{
+    return first ? first : second;
+}
+
+/* A value as its eight bytes; Indeterminate where it is lost, for a reason then. */
 struct value {
-    bool known;
+    enum status lost;
     uint64_t bytes;
 };
 
+static inline struct value lost(enum status why)
+{
+    return (struct value){ why, 0 };
+}
+
+static inline struct value known(uint64_t bytes)
+{
+    return (struct value){ NO_STATUS, bytes };
+}
+
+/* The value of a key's bag in a request: lost unless it has exactly one. */
+static inline struct value one_and_only(const uint8_t *request, const uint8_t *request_end, uint32_t key)
+{
+    const uint8_t *only = NULL;
+    for (const uint8_t *entry = request; entry != request_end; entry += SIZE)
+        if (has_key(entry, key)) {
+            if (only)
+                return lost(PROCESSING_ERROR);
+            only = entry;
+        }
+    return only ? known(big8(only + 8)) : lost(MISSING_ATTRIBUTE);
+}
+
 _Static_assert(FLT_EVAL_METHOD == 0, "a sum that is kept wider than a double would be rounded twice");
 
-/* What an operator gives of two values: not known where an operand is not, where an integer does not fit 64 bits, where
- * a divisor is zero, and where a double is not finite. */
+/* What an operator gives of two values: lost as the first operand that is, and by a processing error where an integer
+ * does not fit 64 bits, where a divisor is zero, and where a double is not finite. */
 static inline struct value operate(unsigned operator, struct value a, struct value b)
 {
     int64_t x = (int64_t)a.bytes, y = (int64_t)b.bytes, result = 0;
-    bool lost = !a.known || !b.known;
+    bool fails;
     switch (operator) {
     case ADD:
-        lost |= __builtin_add_overflow(x, y, &result);
+        fails = __builtin_add_overflow(x, y, &result);
         break;
     case SUBTRACT:
-        lost |= __builtin_sub_overflow(x, y, &result);
+        fails = __builtin_sub_overflow(x, y, &result);
         break;
     case MULTIPLY:
-        lost |= __builtin_mul_overflow(x, y, &result);
+        fails = __builtin_mul_overflow(x, y, &result);
         break;
     case DIVIDE:
-        lost |= y == 0 || (y == -1 && x == INT64_MIN);
-        result = lost ? 0 : x / y;
+        fails = y == 0 || (y == -1 && x == INT64_MIN);
+        result = fails ? 0 : x / y;
         break;
     case REMAINDER:
-        lost |= y == 0;
-        result = lost || y == -1 ? 0 : x % y; /* by -1 it is 0, and C has none of the least integer */
+        fails = y == 0;
+        result = fails || y == -1 ? 0 : x % y; /* by -1 it is 0, and C has none of the least integer */
         break;
     default: /* DOUBLE_ADD */
         result = (int64_t)bits_of(double_of(a.bytes) + double_of(b.bytes));
-        lost |= !is_finite((uint64_t)result);
+        fails = !is_finite((uint64_t)result);
     }
-    return (struct value){ !lost, (uint64_t)result };
+    enum status why = first_of(first_of(a.lost, b.lost), fails ? PROCESSING_ERROR : NO_STATUS);
+    return why ? lost(why) : known((uint64_t)result);
 }
 
 #endif

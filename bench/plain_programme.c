@@ -248,9 +248,16 @@ uint64_t plain_translate(const uint8_t *book, size_t book_len, uint64_t *program
 
 /* ---- The state --------------------------------------------------------------------------------------------- */
 
-/* In the state, truths and decisions have other numbers than elsewhere. */
-enum truth { TRUE, FALSE, UNKNOWN };
-enum { R_PERMIT, R_DENY, R_NOT_APPLICABLE, R_INDETERMINATE };
+/* In the state, truths and answers have other numbers than elsewhere: an Indeterminate truth is FALSE + its status, an
+ * Indeterminate answer R_NOT_APPLICABLE + its status. */
+enum truth { TRUE, FALSE, MISSING, FAILED };
+enum { R_PERMIT, R_DENY, R_NOT_APPLICABLE, R_INDETERMINATE, R_LAST = R_NOT_APPLICABLE + PROCESSING_ERROR };
+
+/* Where the fields of the first number begin; what is behind the last is 0. */
+enum {
+    AT = 0, DEPTH = 13, NEST = 18, PERMITS = 22, DENIES = 32, THE_CUT = 42, REGISTER = 52, CONJUNCTION_SO_FAR = 55,
+    SECTION_SO_FAR = 57, TARGET_SO_FAR = 59, OVER = 61, BEHIND = 62
+};
 
 /* What a frame keeps: ranks 0 to 4, then these; of only-one, that one has decided is ONE + the decision. */
 enum { STRONGEST = 4, NOBODY, PENDING, TOO_MANY, ONE };
@@ -280,31 +287,32 @@ static inline unsigned least(unsigned a, unsigned b)
 
 static bool allowed(uint64_t first)
 {
-    return first >> 61 == 0 && field(first, 13, 5) < FRAMES && field(first, 18, 4) < LEVELS &&
-           field(first, 22, 10) <= PLACES && field(first, 42, 10) + field(first, 32, 10) <= PLACES;
+    return first >> BEHIND == 0 && field(first, DEPTH, 5) < FRAMES && field(first, NEST, 4) < LEVELS &&
+           field(first, PERMITS, 10) <= PLACES && field(first, THE_CUT, 10) + field(first, DENIES, 10) <= PLACES;
 }
 
 static void unpack(struct run *run, uint64_t first)
 {
-    run->at = field(first, 0, 13);
-    run->depth = field(first, 13, 5);
-    run->nest = field(first, 18, 4);
-    run->permits = field(first, 22, 10);
-    run->denies = field(first, 32, 10);
-    run->cut = field(first, 42, 10);
-    run->reg = field(first, 52, 2);
-    run->conjunction = (enum truth)least(field(first, 54, 2), UNKNOWN);
-    run->section = (enum truth)least(field(first, 56, 2), UNKNOWN);
-    run->target = (enum truth)least(field(first, 58, 2), UNKNOWN);
-    run->over = field(first, 60, 1);
+    run->at = field(first, AT, 13);
+    run->depth = field(first, DEPTH, 5);
+    run->nest = field(first, NEST, 4);
+    run->permits = field(first, PERMITS, 10);
+    run->denies = field(first, DENIES, 10);
+    run->cut = field(first, THE_CUT, 10);
+    run->reg = least(field(first, REGISTER, 3), R_LAST);
+    run->conjunction = (enum truth)field(first, CONJUNCTION_SO_FAR, 2);
+    run->section = (enum truth)field(first, SECTION_SO_FAR, 2);
+    run->target = (enum truth)field(first, TARGET_SO_FAR, 2);
+    run->over = field(first, OVER, 1);
 }
 
 static uint64_t pack(const struct run *run)
 {
-    return (uint64_t)run->at | (uint64_t)run->depth << 13 | (uint64_t)run->nest << 18 | (uint64_t)run->permits << 22 |
-           (uint64_t)run->denies << 32 | (uint64_t)run->cut << 42 | (uint64_t)run->reg << 52 |
-           (uint64_t)run->conjunction << 54 | (uint64_t)run->section << 56 | (uint64_t)run->target << 58 |
-           (uint64_t)run->over << 60;
+    return (uint64_t)run->at << AT | (uint64_t)run->depth << DEPTH | (uint64_t)run->nest << NEST |
+           (uint64_t)run->permits << PERMITS | (uint64_t)run->denies << DENIES | (uint64_t)run->cut << THE_CUT |
+           (uint64_t)run->reg << REGISTER | (uint64_t)run->conjunction << CONJUNCTION_SO_FAR |
+           (uint64_t)run->section << SECTION_SO_FAR | (uint64_t)run->target << TARGET_SO_FAR |
+           (uint64_t)run->over << OVER;
 }
 
 uint64_t plain_fresh(uint64_t *numbers, size_t numbers_len, uint16_t *places, size_t places_len)
@@ -313,7 +321,7 @@ uint64_t plain_fresh(uint64_t *numbers, size_t numbers_len, uint16_t *places, si
         return refusal(7, OF_OUTPUT, 0);
     memset(numbers, 0, NUMBERS * sizeof *numbers);
     memset(places, 0, PLACES * sizeof *places);
-    numbers[0] = (uint64_t)FALSE << 56;
+    numbers[0] = (uint64_t)FALSE << SECTION_SO_FAR;
     return 0;
 }
 
@@ -331,14 +339,41 @@ static inline bool go_on(struct run *run, uint64_t more, unsigned reg)
     return true;
 }
 
+static inline enum truth unknown(enum status why)
+{
+    return (enum truth)(FALSE + why);
+}
+
+static inline bool is_unknown(enum truth truth)
+{
+    return truth > FALSE;
+}
+
 static inline enum truth and_of(enum truth a, enum truth b)
 {
-    return a == FALSE || b == FALSE ? FALSE : a == UNKNOWN || b == UNKNOWN ? UNKNOWN : TRUE;
+    return a == FALSE || b == FALSE ? FALSE : a != TRUE ? a : b;
 }
 
 static inline enum truth or_of(enum truth a, enum truth b)
 {
-    return a == TRUE || b == TRUE ? TRUE : a == UNKNOWN || b == UNKNOWN ? UNKNOWN : FALSE;
+    return a == TRUE || b == TRUE ? TRUE : a != FALSE ? a : b;
+}
+
+/* A target with one section more. */
+static inline enum truth target_of(enum truth target, enum truth section)
+{
+    return is_unknown(target) || section == TRUE ? target : section;
+}
+
+/* What the register says of a truth. */
+static inline unsigned register_of(enum truth truth)
+{
+    return truth == TRUE ? R_PERMIT : R_NOT_APPLICABLE + (unsigned)(truth - FALSE);
+}
+
+static inline enum status status_of(unsigned answer)
+{
+    return answer > R_NOT_APPLICABLE ? (enum status)(answer - R_NOT_APPLICABLE) : NO_STATUS;
 }
 
 /* What a match or comparison asks. */
@@ -374,9 +409,9 @@ static inline struct test test_by(unsigned function, uint32_t key, uint64_t lite
     return (struct test){ never ? NEVER : function_by(function, type), type, key_by(key), literal };
 }
 
-static inline bool passes(const struct test *test, const uint8_t *entry)
+static inline bool passes(const struct test *test, uint64_t value)
 {
-    return holds(test->function, test->type, test->literal, big8(entry + 8));
+    return holds(test->function, test->type, test->literal, value);
 }
 
 static inline enum truth match_of(const struct run *run, struct test test, bool must_be_present)
@@ -384,30 +419,17 @@ static inline enum truth match_of(const struct run *run, struct test test, bool 
     bool found = false;
     for (const uint8_t *entry = run->request; entry != run->request_end; entry += SIZE)
         if (has_key(entry, test.key)) {
-            if (passes(&test, entry))
+            if (passes(&test, big8(entry + 8)))
                 return TRUE;
             found = true;
         }
-    return found || !must_be_present ? FALSE : UNKNOWN;
-}
-
-/* The entry of a key's bag; NULL unless it has exactly one. */
-static inline const uint8_t *one_and_only(const struct run *run, uint32_t key)
-{
-    const uint8_t *only = NULL;
-    for (const uint8_t *entry = run->request; entry != run->request_end; entry += SIZE)
-        if (has_key(entry, key)) {
-            if (only)
-                return NULL;
-            only = entry;
-        }
-    return only;
+    return found || !must_be_present ? FALSE : MISSING;
 }
 
 static inline enum truth comparison_of(const struct run *run, struct test test)
 {
-    const uint8_t *only = one_and_only(run, test.key);
-    return !only ? UNKNOWN : passes(&test, only) ? TRUE : FALSE;
+    struct value its = one_and_only(run->request, run->request_end, test.key);
+    return its.lost ? unknown(its.lost) : passes(&test, its.bytes) ? TRUE : FALSE;
 }
 
 static inline bool step_match(struct run *run, uint64_t entry, size_t left)
@@ -434,21 +456,14 @@ static inline bool step_match(struct run *run, uint64_t entry, size_t left)
         run->at += 1 + to_conjunction;
         return true;
     }
-    enum truth target = truth > run->target ? truth : run->target;
+    enum truth target = target_of(run->target, truth);
     run->section = FALSE;
-    if (truth != UNKNOWN && !field(entry, 10, 1)) {
+    if (!is_unknown(truth) && !field(entry, 10, 1)) {
         run->target = target;
         run->at += 1 + to_section;
         return true;
     }
-    if (target == TRUE)
-        return go_on(run, to_section, run->reg);
-    return go_on(run, out, truth != UNKNOWN && target == FALSE ? R_NOT_APPLICABLE : R_INDETERMINATE);
-}
-
-static inline unsigned register_of(enum truth truth)
-{
-    return truth == TRUE ? R_PERMIT : truth == FALSE ? R_NOT_APPLICABLE : R_INDETERMINATE;
+    return target == TRUE ? go_on(run, to_section, run->reg) : go_on(run, out, register_of(target));
 }
 
 static inline uint64_t level_word(unsigned operation, enum truth value)
@@ -460,7 +475,7 @@ static inline uint64_t level_word(unsigned operation, enum truth value)
 static inline bool tell(struct run *run, unsigned height, enum truth part)
 {
     unsigned operation = least(field(run->levels[height], 0, 2), NOT - AND);
-    enum truth value = (enum truth)least(field(run->levels[height], 2, 2), UNKNOWN);
+    enum truth value = (enum truth)field(run->levels[height], 2, 2);
     switch (operation + AND) {
     case AND:
         value = and_of(value, part);
@@ -469,7 +484,7 @@ static inline bool tell(struct run *run, unsigned height, enum truth part)
         value = or_of(value, part);
         break;
     default:
-        value = part == UNKNOWN ? UNKNOWN : part == TRUE ? FALSE : TRUE;
+        value = is_unknown(part) ? part : part == TRUE ? FALSE : TRUE;
     }
     run->levels[height] = level_word(operation, value);
     return (operation == AND - AND && value == FALSE) || (operation == OR - AND && value == TRUE);
@@ -514,7 +529,7 @@ static inline bool step_close(struct run *run, uint64_t way)
 {
     if (run->nest == 0)
         return go_on(run, 0, run->reg);
-    enum truth truth = (enum truth)least(field(run->levels[run->nest], 2, 2), UNKNOWN);
+    enum truth truth = (enum truth)field(run->levels[run->nest], 2, 2);
     run->nest--;
     if (run->nest > 0)
         return go_on(run, tell(run, run->nest, truth) ? way : 0, run->reg);
@@ -524,12 +539,12 @@ static inline bool step_close(struct run *run, uint64_t way)
 /* ---- Sums -------------------------------------------------------------------------------------------------- */
 
 /* The word of a value for the levels. Once one is lost, all are to the end of the comparison: they stand as 0, and the
- * truth of the conjunction, idle in conditions, says so. */
+ * truth of the conjunction, idle in conditions, says why the first was. */
 static inline uint64_t word_of(struct run *run, struct value value)
 {
-    bool lost = !value.known || run->conjunction == UNKNOWN;
-    run->conjunction = lost ? UNKNOWN : TRUE;
-    return lost ? 0 : value.bytes;
+    if (!is_unknown(run->conjunction))
+        run->conjunction = value.lost ? unknown(value.lost) : TRUE;
+    return is_unknown(run->conjunction) ? 0 : value.bytes;
 }
 
 /* A number beyond the operators is read as the last. */
@@ -553,8 +568,7 @@ static inline bool words_pass(uint64_t of, uint64_t a, uint64_t b)
 
 static inline void step_attribute(struct run *run, uint32_t key)
 {
-    const uint8_t *only = one_and_only(run, key_by(key));
-    push_level(run, word_of(run, (struct value){ only != NULL, only ? big8(only + 8) : 0 }));
+    push_level(run, word_of(run, one_and_only(run->request, run->request_end, key_by(key))));
 }
 
 static inline bool step_sum(struct run *run, uint64_t of, size_t left)
@@ -566,17 +580,16 @@ static inline bool step_sum(struct run *run, uint64_t of, size_t left)
         if (left < 1)
             return false;
         run->at++;
-        push_level(run, word_of(run, (struct value){ true, run->programme[run->at] }));
+        push_level(run, word_of(run, known(run->programme[run->at])));
         break;
     case AN_ATTRIBUTE:
         step_attribute(run, (uint32_t)of);
         break;
     case AN_OPERATOR:
-        replace_levels(run, word_of(run, operate(operator_by(of), (struct value){ true, first },
-                                                 (struct value){ true, second })));
+        replace_levels(run, word_of(run, operate(operator_by(of), known(first), known(second))));
         break;
     default:
-        truth = run->conjunction == UNKNOWN ? UNKNOWN : words_pass(of, first, second) ? TRUE : FALSE;
+        truth = is_unknown(run->conjunction) ? run->conjunction : words_pass(of, first, second) ? TRUE : FALSE;
         replace_levels(run, level_word(AND - AND, truth));
         run->conjunction = TRUE;
     }
@@ -586,19 +599,23 @@ static inline bool step_sum(struct run *run, uint64_t of, size_t left)
 
 /* ---- Frames ------------------------------------------------------------------------------------------------ */
 
+/* What it keeps is without a status: the first one met, of only-one the last, stands beside it. */
 struct frame {
     unsigned algorithm, kept, permits, denies;
+    enum status why;
 };
 
 static inline struct frame frame_by(uint64_t number)
 {
     return (struct frame){ least(field(number, 0, 3), ONLY_ONE), least(field(number, 3, 4), ONE + R_INDETERMINATE),
-                           field(number, 7, 10), field(number, 17, 10) };
+                           field(number, 7, 10), field(number, 17, 10),
+                           (enum status)least(field(number, 27, 2), PROCESSING_ERROR) };
 }
 
 static inline uint64_t frame_word(struct frame frame)
 {
-    return frame.algorithm | frame.kept << 3 | frame.permits << 7 | (uint64_t)frame.denies << 17;
+    return frame.algorithm | frame.kept << 3 | frame.permits << 7 | (uint64_t)frame.denies << 17 |
+           (uint64_t)frame.why << 27;
 }
 
 /* How strong an answer is, by the algorithm, the effect of a rule, and the decision. */
@@ -611,9 +628,12 @@ static const uint8_t ranks[6][2][4] = {
     [ONLY_ONE] = { { 0 } },
 };
 
-/* A frame takes in a child's decision; says whether no later child can change the outcome. */
-static inline bool take_in(struct frame *frame, unsigned effect, unsigned decision)
+/* A frame takes in a child's answer; says whether no later child can change the outcome. */
+static inline bool take_in(struct frame *frame, unsigned effect, unsigned answer)
 {
+    unsigned decision = least(answer, R_INDETERMINATE);
+    enum status why = status_of(answer);
+    frame->why = frame->algorithm == ONLY_ONE ? first_of(why, frame->why) : first_of(frame->why, why);
     if (frame->kept <= STRONGEST) {
         unsigned rank = ranks[frame->algorithm][effect][decision];
         if (rank > frame->kept)
@@ -643,6 +663,13 @@ static inline unsigned decision_of(struct frame frame)
     return frame.kept != 2 ? R_INDETERMINATE : deny_wins ? R_PERMIT : R_DENY;
 }
 
+/* The decision with its status; in the frame of a translated programme an Indeterminate has one. */
+static inline unsigned answer_of(struct frame frame)
+{
+    unsigned decision = decision_of(frame);
+    return decision < R_INDETERMINATE ? decision : R_NOT_APPLICABLE + first_of(frame.why, PROCESSING_ERROR);
+}
+
 /* The height of the frame below the one on top; the bottom is below itself. */
 static inline unsigned below(const struct run *run)
 {
@@ -663,7 +690,8 @@ static inline void open_frame(struct run *run, uint64_t n)
     if (run->depth + 1 < FRAMES) {
         run->depth++;
         run->frames[run->depth] =
-            frame_word((struct frame){ algorithm, algorithm == ONLY_ONE ? NOBODY : 0, run->permits, run->denies });
+            frame_word((struct frame){ algorithm, algorithm == ONLY_ONE ? NOBODY : 0, run->permits, run->denies,
+                                       NO_STATUS });
     }
 }
 
@@ -681,6 +709,8 @@ static inline bool step_applies(struct run *run, uint64_t way)
     struct frame frame = frame_by(run->frames[under]);
     bool first = frame.kept == NOBODY;
     frame.kept = first ? PENDING : TOO_MANY;
+    if (!first)
+        frame.why = PROCESSING_ERROR;
     run->frames[under] = frame_word(frame);
     if (first)
         return go_on(run, 0, run->reg);
@@ -691,12 +721,12 @@ static inline bool step_applies(struct run *run, uint64_t way)
 static inline bool step_conclude(struct run *run, uint64_t way)
 {
     struct frame frame = frame_by(run->frames[run->depth]);
-    unsigned decision = decision_of(frame);
-    if (decision != R_PERMIT)
+    unsigned answer = answer_of(frame);
+    if (answer != R_PERMIT)
         run->permits = least(run->permits, frame.permits);
-    if (decision != R_DENY)
+    if (answer != R_DENY)
         run->denies = least(run->denies, frame.denies);
-    return go_on(run, decision <= R_DENY ? 0 : way, decision);
+    return go_on(run, answer <= R_DENY ? 0 : way, answer);
 }
 
 static inline bool step_oblige(struct run *run, unsigned effect, uint64_t number)
@@ -818,7 +848,7 @@ static uint64_t answer(const struct run *run, uint16_t *out, size_t out_len)
     size_t count = run->reg == R_PERMIT ? run->permits : run->reg == R_DENY ? run->denies : 0;
     memcpy(out, run->places, count * sizeof *out);
     memset(out + count, 0, (out_len - count) * sizeof *out);
-    return run->reg + PERMIT + 256 * (uint64_t)count;
+    return least(run->reg, R_INDETERMINATE) + PERMIT + 256 * (uint64_t)count + ((uint64_t)status_of(run->reg) << 24);
 }
 
 uint64_t plain_tick(const uint64_t *programme, size_t programme_len, const uint8_t *request, size_t request_len,

@@ -91,7 +91,7 @@ static uint64_t agree(const struct input *in)
         translate(proved_machine, in->book, in->book_len, &theirs);
         if (memcmp(&theirs, &programme, sizeof programme) != 0)
             wrong("another programme than plain C's", "translate");
-        if ((proved_whole_run(in) & 0xFFFFFFFF) != number)
+        if (as_decided(proved_whole_run(in)) != number)
             wrong("another answer than plain C's", "run");
     }
     return taken;

@@ -1,6 +1,6 @@
-/* Tries the plain C of the benchmark on document 01's P1 to P11, its Run line, the two zeros and the sums of document
- * 02, some refusals, and the examples: decided, and run as a programme. Run from the top of the repository; built by
- * bench/run. Exit status 0 if all is right, else 1. */
+/* Tries the plain C of the benchmark on document 01's P1 to P11, its Run line, the two zeros, the sums and the status
+ * codes of document 02, some refusals, and the examples: decided, and run as a programme. Run from the top of the
+ * repository; built by bench/run. Exit status 0 if all is right, else 1. */
 #include "books.h"
 #include "machine.h"
 #include "plain.h"
@@ -12,7 +12,8 @@
 static int failed;
 static uint8_t book[MOST_BOOK + RECORD], request[MOST_REQUEST + RECORD], out[MOST_OUT];
 
-/* What the deciding program would print of a number and the obligations in out. */
+/* What the deciding program would print of a number and the obligations in out; then, of an Indeterminate, a blank and
+ * its code. */
 static void print_line(char *line, uint64_t number)
 {
     if ((number & 255) == 255) {
@@ -20,9 +21,11 @@ static void print_line(char *line, uint64_t number)
         sprintf(line, "FF%02X%02X%04X", why, part, at);
         return;
     }
-    line += sprintf(line, "%02X%04X", (unsigned)(number & 255), (unsigned)(number >> 8));
-    for (uint64_t i = 0; i < number >> 8; i++)
+    line += sprintf(line, "%02X%04X", (unsigned)(number & 255), bachumoi_count(number));
+    for (size_t i = 0; i < bachumoi_count(number); i++)
         line += sprintf(line, "%02X%02X", out[2 * i], out[2 * i + 1]);
+    if (number >> 24 != 0)
+        sprintf(line, " %llX", (unsigned long long)number >> 40);
 }
 
 /* Runs the book's programme on the request, with steps dealt out by chance: it must answer like the decision that is in
@@ -37,7 +40,7 @@ static int runs_alike(size_t book_len, size_t request_len, uint64_t number)
     if (run(&plain_machine, &programme, request, request_len, &dice, places, &steps) != number)
         return 0;
     for (size_t i = 0; i < BACHUMOI_PLACES; i++)
-        if (places[i] != (i < number >> 8 ? (out[2 * i] << 8 | out[2 * i + 1]) : 0))
+        if (places[i] != (i < bachumoi_count(number) ? (out[2 * i] << 8 | out[2 * i + 1]) : 0))
             return 0;
     return 1;
 }
@@ -51,7 +54,7 @@ static void expect_bytes(const char *name, size_t book_len, size_t request_len, 
     uint64_t number = plain_decide(book, book_len, request, request_len, out, out_len);
     print_line(line, number);
     int refused = (number & 255) == 255, right = strcmp(line, expected) == 0;
-    for (size_t i = refused ? 0 : 2 * (number >> 8); i < sizeof out; i++)
+    for (size_t i = 2 * bachumoi_count(number); i < sizeof out; i++)
         right &= out[i] == (refused || i >= out_len ? 0xEE : 0);
     if (!right) {
         printf("plain C: %s: %s, not %s\n", name, line, expected);
@@ -82,16 +85,16 @@ static void expect(const char *name, const char *book_text, const char *request_
 
 static void worked(void)
 {
-    expect("P1", A, "", "040000");
+    expect("P1", A, "", "040000 1");
     expect("P2", A, A_60, "0100010011");
     expect("P3", A, A_40, "0200010012");
     expect("P4", A, A_50, "0100010011");
     expect("P5", A, A_MINUS_1, "0200010012");
-    expect("P6", A, A_40 A_40, "040000");
+    expect("P6", A, A_40 A_40, "040000 2");
     expect("P7", "01010007000000000000000000000000\n" A, "", "020000");
-    expect("P8", "01020007000000000000000000000000\n" A, "", "040000");
+    expect("P8", "01020007000000000000000000000000\n" A, "", "040000 1");
     expect("P9", "01040008000000000000000000000000\n"
-                 "02010001000000000000000000000000\n" A, A_60, "040000");
+                 "02010001000000000000000000000000\n" A, A_60, "040000 2");
     expect("P10", "02010008000000000000000000000000\n"
                   "04000003010000000000000000000000\n"
                   "05000002000000000000000000000000\n"
@@ -99,7 +102,7 @@ static void worked(void)
                   "04000003030000000000000000000000\n"
                   "05000002000000000000000000000000\n"
                   "06010001030100010000000000000001\n"     /* action 1 is not there: False */
-                  "03010001000000000000000000000000\n", "", "040000");
+                  "03010001000000000000000000000000\n", "", "040000 1");
     expect("P11", "02010006000000000000000000000000\n"
                   "04000004010000000000000000000000\n"
                   "05000003000000000000000000000000\n"
@@ -160,7 +163,7 @@ static void operates(unsigned operator, unsigned type, const uint64_t *operands,
                               operator, 0);
         at += put_operands(at, type, operands, as_attributes);
         sprintf(at, "0A01000100%02X0000%016llX\n", type, (unsigned long long)result);
-        expect(name, policy, entries, outcome == GIVES ? "010000" : "040000");
+        expect(name, policy, entries, outcome == GIVES ? "010000" : "040000 2");
     }
 }
 
@@ -296,14 +299,14 @@ static void attributes_of_sums(void)
     static const char present[] = "0A020001028100040000000000000000", limit[] = "0A020001020100050000000000000000";
     with_line("97 + 3", 0, "", SUM_97, "030000");
     with_line("98 + 3", 0, "", SUM_98, "0200010012");
-    with_line("the largest + 3", 0, "", SUM_MOST, "040000");
-    with_line("no pressure", 0, "", "", "040000");
-    with_line("pressure twice", 0, "", SUM_98 SUM_98, "040000");
-    with_line("pressure as a double", 0, "", "02030004000000004058800000000000\n", "040000");
+    with_line("the largest + 3", 0, "", SUM_MOST, "040000 2");
+    with_line("no pressure", 0, "", "", "040000 1");
+    with_line("pressure twice", 0, "", SUM_98 SUM_98, "040000 2");
+    with_line("pressure as a double", 0, "", "02030004000000004058800000000000\n", "040000 1");
     with_line("pressure must be present", 5, present, SUM_98, "0200010012");
-    with_line("pressure must be present, and is not", 5, present, "", "040000");
-    with_line("no limit", 7, limit, SUM_98, "040000");
-    with_line("the largest + 3, and no limit", 7, limit, SUM_MOST, "040000");
+    with_line("pressure must be present, and is not", 5, present, "", "040000 1");
+    with_line("no limit", 7, limit, SUM_98, "040000 1");
+    with_line("the largest + 3, and no limit", 7, limit, SUM_MOST, "040000 2");
 }
 
 #define LITERAL(digits) "0A0100010001000000000000000000" digits "\n"
@@ -326,12 +329,12 @@ static void sums_in_groups(void)
 {
     grouped("and: by zero, other", 1, BY_ZERO OTHER, "030000");
     grouped("and: other, by zero", 1, OTHER BY_ZERO, "030000");
-    grouped("and: by zero, same", 1, BY_ZERO SAME, "040000");
+    grouped("and: by zero, same", 1, BY_ZERO SAME, "040000 2");
     grouped("and: same, same", 1, SAME SAME, "010000");
     grouped("or: by zero, same", 2, BY_ZERO SAME, "010000");
     grouped("or: same, by zero", 2, SAME BY_ZERO, "010000");
-    grouped("or: by zero, other", 2, BY_ZERO OTHER, "040000");
-    grouped("not: by zero", 3, BY_ZERO, "040000");
+    grouped("or: by zero, other", 2, BY_ZERO OTHER, "040000 2");
+    grouped("not: by zero", 3, BY_ZERO, "040000 2");
     grouped("not: other", 3, OTHER, "010000");
 }
 
@@ -434,6 +437,169 @@ static void sums(void)
     depth_of_sums();
 }
 
+/* ---- Why Indeterminate ------------------------------------------------------------------------------------- */
+
+enum { DENY_OVERRIDES = 1, PERMIT_OVERRIDES, FIRST_APPLICABLE, ONLY_ONE_APPLICABLE };
+enum { AND = 1, OR, NOT };
+
+/* Environment attribute 1 is missing, 2 is there twice, 3 is 1. */
+#define WHY "04010002000000000000000000000001\n" \
+            "04010002000000000000000000000001\n" \
+            "04010003000000000000000000000001\n"
+
+/* A comparison that for this request is Indeterminate with code 1 or 2, True or False. */
+static const char *comparing(char what)
+{
+    switch (what) {
+    case '1':
+        return "070B0001040100010000000000000001\n";
+    case '2':
+        return "070B0001040100020000000000000001\n";
+    case 't':
+        return "070B0001040100030000000000000001\n";
+    default:
+        return "070B0001040100030000000000000002\n";
+    }
+}
+
+/* And, or or not of comparisons, in a Permit rule. */
+static void codes_of_conditions(void)
+{
+    static const struct { unsigned choice; const char *parts, *expected; } all[] = {
+        { AND, "1", "040000 1" }, { AND, "2", "040000 2" }, { AND, "t12", "040000 1" }, { AND, "2t1", "040000 2" },
+        { AND, "12f", "030000" }, { AND, "f12", "030000" }, { OR, "f21", "040000 2" }, { OR, "1f2", "040000 1" },
+        { OR, "12t", "010000" }, { NOT, "1", "040000 1" }, { NOT, "2", "040000 2" },
+    };
+    for (size_t i = 0; i < sizeof all / sizeof *all; i++) {
+        char name[40], text[8 * 33 + 1], *at = text;
+        unsigned parts = (unsigned)strlen(all[i].parts);
+        snprintf(name, sizeof name, "codes: condition %u of %s", all[i].choice, all[i].parts);
+        at += sprintf(at, "0203%04X%024d\n0301%04X%024d\n07%02X%04X%024d\n", parts + 3, 0, parts + 2, 0,
+                      all[i].choice, parts + 1, 0);
+        for (unsigned k = 0; k < parts; k++)
+            at += sprintf(at, "%s", comparing(all[i].parts[k]));
+        expect(name, text, WHY, all[i].expected);
+    }
+}
+
+/* Operands of a sum, each one of these attributes. */
+static void codes_of_operands(void)
+{
+    static const struct { unsigned first, second; const char *expected; } all[] = {
+        { 1, 2, "040000 1" }, { 2, 1, "040000 2" }, { 3, 1, "040000 1" }, { 3, 2, "040000 2" }, { 1, 3, "040000 1" },
+        { 2, 3, "040000 2" }, { 3, 3, "010000" },
+    };
+    for (size_t i = 0; i < sizeof all / sizeof *all; i++) {
+        char name[40], text[10 * 33 + 1];
+        snprintf(name, sizeof name, "codes: attributes %u and %u added", all[i].first, all[i].second);
+        sprintf(text, "02030007%024d\n03010006%024d\n07150005%024d\n0A030003%024d\n0A0200010401%04X%016d\n"
+                "0A0200010401%04X%016d\n" LITERAL("02"), 0, 0, 0, 0, all[i].first, 0, all[i].second, 0);
+        expect(name, text, WHY, all[i].expected);
+        snprintf(name, sizeof name, "codes: attributes %u and %u compared", all[i].first, all[i].second);
+        sprintf(text, "02030005%024d\n03010004%024d\n07150003%024d\n0A0200010401%04X%016d\n0A0200010401%04X%016d\n",
+                0, 0, 0, all[i].first, 0, all[i].second, 0);
+        expect(name, text, WHY, all[i].expected);
+    }
+}
+
+/* A policy of rules, each written as its effect and the comparison that is its condition. */
+static void codes_of_rules(void)
+{
+    static const struct { unsigned algorithm; const char *rules, *expected; } all[] = {
+        { DENY_OVERRIDES, "P1D2", "040000 1" }, { DENY_OVERRIDES, "P2D1", "040000 2" },
+        { DENY_OVERRIDES, "PtP1D2", "040000 1" }, { DENY_OVERRIDES, "D2PtD1", "040000 2" },
+        { DENY_OVERRIDES, "DfP2P1", "040000 2" }, { DENY_OVERRIDES, "P1Pt", "010000" },
+        { DENY_OVERRIDES, "P1D2Dt", "020000" }, { DENY_OVERRIDES, "P2", "040000 2" },
+        { PERMIT_OVERRIDES, "D1P2", "040000 1" }, { PERMIT_OVERRIDES, "D2DtP1", "040000 2" },
+        { PERMIT_OVERRIDES, "P2Dt", "040000 2" }, { PERMIT_OVERRIDES, "D1Dt", "020000" },
+        { PERMIT_OVERRIDES, "D2P1Pt", "010000" }, { PERMIT_OVERRIDES, "PfD1", "040000 1" },
+        { FIRST_APPLICABLE, "PfD2P1", "040000 2" }, { FIRST_APPLICABLE, "DfP1Dt", "040000 1" },
+        { FIRST_APPLICABLE, "PtD1", "010000" },
+    };
+    for (size_t i = 0; i < sizeof all / sizeof *all; i++) {
+        char name[40], text[8 * 33 + 1], *at = text;
+        snprintf(name, sizeof name, "codes: algorithm %u of rules %s", all[i].algorithm, all[i].rules);
+        at += sprintf(at, "02%02X%04X%024d\n", all[i].algorithm, (unsigned)strlen(all[i].rules) + 1, 0);
+        for (const char *rule = all[i].rules; *rule; rule += 2)
+            at += sprintf(at, "03%02X0002%024d\n%s", rule[0] == 'P' ? 1 : 2, 0, comparing(rule[1]));
+        expect(name, text, WHY, all[i].expected);
+    }
+}
+
+/* A match that is True, False, or Indeterminate, which is with code 1. */
+static const char *matching(char what)
+{
+    switch (what) {
+    case 'm':
+        return "06010001040100030000000000000001\n";
+    case 'n':
+        return "06010001040100030000000000000002\n";
+    default:
+        return "06010001048100010000000000000001\n";
+    }
+}
+
+/* A policy whose target is such a match, and whose rule permits, denies, or is Indeterminate with code 1 or 2. Returns
+ * the length of its six lines. */
+static int put_policy(char *text, char target, char answer)
+{
+    char condition = answer == 'P' || answer == 'D' ? 't' : answer;
+    return sprintf(text, "02030006%024d\n04000003040000000000000000000000\n05000002%024d\n%s03%02X0002%024d\n%s", 0, 0,
+                   matching(target), answer == 'D' ? 2 : 1, 0, comparing(condition));
+}
+
+static void codes_of_sets(void)
+{
+    static const struct { unsigned algorithm; const char *policies, *expected; } all[] = {
+        { PERMIT_OVERRIDES, "m1m2", "040000 1" }, { PERMIT_OVERRIDES, "m2m1", "040000 2" },
+        { PERMIT_OVERRIDES, "nPm21P", "040000 2" }, { PERMIT_OVERRIDES, "1Dm2", "040000 1" },
+        { PERMIT_OVERRIDES, "m2mD", "020000" }, { PERMIT_OVERRIDES, "m2mP", "010000" },
+        { DENY_OVERRIDES, "m1", "020000" }, { DENY_OVERRIDES, "mPm2", "020000" }, { DENY_OVERRIDES, "1P", "020000" },
+        { FIRST_APPLICABLE, "nPm2m1", "040000 2" }, { FIRST_APPLICABLE, "nP1Pm2", "040000 1" },
+        { FIRST_APPLICABLE, "mDm1", "020000" }, { ONLY_ONE_APPLICABLE, "mPmP", "040000 2" },
+        { ONLY_ONE_APPLICABLE, "mPnDmP", "040000 2" }, { ONLY_ONE_APPLICABLE, "1PmPmP", "040000 1" },
+        { ONLY_ONE_APPLICABLE, "mP1PmP", "040000 1" }, { ONLY_ONE_APPLICABLE, "mPmP1P", "040000 2" },
+        { ONLY_ONE_APPLICABLE, "m2nP1P", "040000 1" }, { ONLY_ONE_APPLICABLE, "m1mP", "040000 2" },
+        { ONLY_ONE_APPLICABLE, "nPm1nP", "040000 1" }, { ONLY_ONE_APPLICABLE, "m2", "040000 2" },
+        { ONLY_ONE_APPLICABLE, "nPmDnP", "020000" }, { ONLY_ONE_APPLICABLE, "n1n2", "030000" },
+    };
+    for (size_t i = 0; i < sizeof all / sizeof *all; i++) {
+        char name[48], text[20 * 33 + 1], *at = text;
+        snprintf(name, sizeof name, "codes: algorithm %u of policies %s", all[i].algorithm, all[i].policies);
+        at += sprintf(at, "01%02X%04X%024d\n", all[i].algorithm, 3 * (unsigned)strlen(all[i].policies) + 1, 0);
+        for (const char *policy = all[i].policies; *policy; policy += 2)
+            at += put_policy(at, policy[0], policy[1]);
+        expect(name, text, WHY, all[i].expected);
+    }
+}
+
+/* An only-one set in a set: the code goes up with the Indeterminate, and a Deny made of it goes up without. */
+static void codes_of_nested_sets(void)
+{
+    static const struct { unsigned algorithm; const char *expected; } all[] = {
+        { PERMIT_OVERRIDES, "040000 2" }, { FIRST_APPLICABLE, "040000 2" }, { DENY_OVERRIDES, "020000" },
+        { ONLY_ONE_APPLICABLE, "040000 2" },
+    };
+    for (size_t i = 0; i < sizeof all / sizeof *all; i++) {
+        char name[40], text[20 * 33 + 1], *at = text;
+        snprintf(name, sizeof name, "codes: algorithm %u of a set", all[i].algorithm);
+        at += sprintf(at, "01%02X0014%024d\n0104000D%024d\n", all[i].algorithm, 0, 0);
+        at += put_policy(at, 'm', '1');
+        at += put_policy(at, 'm', '1');
+        put_policy(at, 'n', 'P');
+        expect(name, text, WHY, all[i].expected);
+    }
+}
+
+static void codes(void)
+{
+    codes_of_conditions();
+    codes_of_operands();
+    codes_of_rules();
+    codes_of_sets();
+    codes_of_nested_sets();
+}
+
 /* ---- Limits and refusals ----------------------------------------------------------------------------------- */
 
 /* A set of span records, and policies of one record to fill it. */
@@ -501,10 +667,24 @@ static void programme_of_a(void)
     }
 }
 
+/* Adds the code that a folder of examples says a request has: none where it does not name the request. */
+static void add_code(const char *folder, const char *file, char *expected)
+{
+    char path[200], name[64];
+    unsigned code;
+    snprintf(path, sizeof path, "%s/codes.txt", folder);
+    FILE *codes = fopen(path, "r");
+    while (codes && fscanf(codes, "%63s %*[^,], %u%*[^\n]", name, &code) == 2)
+        if (strcmp(name, file) == 0 && code != 0)
+            sprintf(expected + strlen(expected), " %u", code);
+    if (codes)
+        fclose(codes);
+}
+
 /* The answers that a folder of examples says it has. */
 static void examples(const char *folder)
 {
-    char path[200], file[64], expected[64];
+    char path[200], file[64], expected[80];
     snprintf(path, sizeof path, "%s/BOOK.HEX", folder);
     size_t book_len = bytes_of_file(path, book, sizeof book);
     snprintf(path, sizeof path, "%s/answers.txt", folder);
@@ -512,6 +692,7 @@ static void examples(const char *folder)
     unsigned asked = 0;
     while (answers && fscanf(answers, "%63s %63s", file, expected) == 2) {
         snprintf(path, sizeof path, "%s/%s", folder, file);
+        add_code(folder, file, expected);
         expect_bytes(path, book_len, bytes_of_file(path, request, sizeof request), sizeof out, expected);
         asked++;
     }
@@ -528,6 +709,7 @@ int main(void)
     worked();
     zeros();
     sums();
+    codes();
     run_line();
     refusals();
     programme_of_a();
@@ -535,6 +717,7 @@ int main(void)
     examples("examples/rig");
     examples("examples/zero");
     examples("examples/sum");
+    examples("examples/why");
     examples("examples/refused/9");
     examples("examples/refused/10");
     examples("examples/refused/11");

@@ -45,6 +45,19 @@ static uint8_t *lend(struct bytes bytes)
     return copy;
 }
 
+static const char *words_of(enum bachumoi_status status)
+{
+    switch (status) {
+    case BACHUMOI_NO_STATUS:
+        return "no code";
+    case BACHUMOI_MISSING_ATTRIBUTE:
+        return "missing attribute";
+    case BACHUMOI_PROCESSING_ERROR:
+        return "processing error";
+    }
+    return "no such code";
+}
+
 static void print_answer(uint64_t answer)
 {
     switch (bachumoi_answer(answer)) {
@@ -61,7 +74,7 @@ static void print_answer(uint64_t answer)
         printf("NotApplicable");
         break;
     case BACHUMOI_INDETERMINATE:
-        printf("Indeterminate");
+        printf("Indeterminate, %s", words_of(bachumoi_decide_status(answer)));
         break;
     case BACHUMOI_REFUSED:
         printf("refused %u, part %u, line %u", bachumoi_number(answer), bachumoi_part(answer), bachumoi_line(answer));
@@ -100,6 +113,11 @@ static uint64_t decided(unsigned decision, unsigned count)
     return decision + 256 * (uint64_t)count;
 }
 
+static uint64_t indeterminate(enum bachumoi_status status)
+{
+    return BACHUMOI_INDETERMINATE + 1099511627776 * (uint64_t)status;
+}
+
 static uint64_t refused(unsigned number, unsigned part, unsigned line)
 {
     return 255 + 256 * (uint64_t)number + 65536 * (uint64_t)line + 4294967296 * (uint64_t)part;
@@ -135,12 +153,12 @@ static struct bytes entries(uint8_t *buffer, unsigned count, int64_t value)
 static void worked_book(void)
 {
     uint8_t q[2 * RECORD];
-    expect("P1 no entry", a, empty, decided(4, 0), first(left_none, 4));
+    expect("P1 no entry", a, empty, indeterminate(BACHUMOI_MISSING_ATTRIBUTE), first(left_none, 4));
     expect("P2 60", a, entries(q, 1, 60), decided(1, 1), first(left_17, 4));
     expect("P3 40", a, entries(q, 1, 40), decided(2, 1), first(left_18, 4));
     expect("P4 50", a, entries(q, 1, 50), decided(1, 1), first(left_17, 4));
     expect("P5 -1", a, entries(q, 1, -1), decided(2, 1), first(left_18, 4));
-    expect("P6 40 twice", a, entries(q, 2, 40), decided(4, 0), first(left_none, 4));
+    expect("P6 40 twice", a, entries(q, 2, 40), indeterminate(BACHUMOI_PROCESSING_ERROR), first(left_none, 4));
     expect("40, room for more, an odd byte", a, entries(q, 1, 40), decided(2, 1), first(left_18, 7));
 }
 
@@ -202,7 +220,7 @@ static void other_refusals(void)
     q[RECORD + 1] = 4;
     expect("entry 2 of type 4", a, first(q, 2 * RECORD), refused(5, 2, 2), first(left_alone, 4));
     expect("output one byte short", a, entries(q, 1, 40), refused(7, 3, 0), first(left_alone, 3));
-    expect("64 entries of 40", a, entries(q, 64, 40), decided(4, 0), first(left_none, 4));
+    expect("64 entries of 40", a, entries(q, 64, 40), indeterminate(BACHUMOI_PROCESSING_ERROR), first(left_none, 4));
 }
 
 int main(void)

@@ -1,7 +1,7 @@
 /* A C host: sums in conditions, document 02, 3. Asks the book of examples/sum, which denies when front pressure plus
  * offset passes 120, with requests around the limit, at the ends of 64 bits, and with an attribute missing; then the
  * same book with every other operator and comparison; then spoilt ones, for the refusals 5 and 11 and their lines. All
- * of it through bachumoi_decide and in ticks of one step, whose decisions and obligations must be the same.
+ * of it through bachumoi_decide and in ticks of one step, whose decisions, codes and obligations must be the same.
  *
  * All that is lent stands in heap buffers of exactly the lent length, so that fences and valgrind see any byte read or
  * written beside them. Exit status 0 if all is as document 02 says, else 1. host/run builds and runs it.
@@ -30,7 +30,20 @@ static const char *const lines[RECORDS] = {
     "08020001000000420000000000000000", /* on Deny, obligation 66 */
 };
 
-enum { ON_PERMIT = 65, ON_DENY = 66 };
+/* What is expected of a question: the decision, its obligation if there is one, its code if it is Indeterminate. */
+enum outcome { PERMIT, DENY, MISSING, PROCESSING };
+static const struct {
+    enum bachumoi_answer decision;
+    unsigned obligation;
+    enum bachumoi_status status;
+    const char *words;
+} outcomes[] = {
+    [PERMIT] = { BACHUMOI_PERMIT, 65, BACHUMOI_NO_STATUS, "Permit, 65" },
+    [DENY] = { BACHUMOI_DENY, 66, BACHUMOI_NO_STATUS, "Deny, 66" },
+    [MISSING] = { BACHUMOI_INDETERMINATE, 0, BACHUMOI_MISSING_ATTRIBUTE, "Indeterminate, missing attribute" },
+    [PROCESSING] = { BACHUMOI_INDETERMINATE, 0, BACHUMOI_PROCESSING_ERROR, "Indeterminate, processing error" },
+};
+
 enum { EQUAL = 21, GREATER };
 enum { ADD = 3, SUBTRACT, MULTIPLY, DIVIDE, REMAINDER, DOUBLE_ADD };
 enum { INTEGER = 1, DOUBLE = 3 };
@@ -110,22 +123,18 @@ static uint8_t *lend_request(const struct question *q, size_t *len)
     return request;
 }
 
-/* The number of a decision, and the obligation that goes with it. */
-static uint64_t number_of(enum bachumoi_answer decision)
+/* The number of a decision; its code begins at this bit. */
+static uint64_t number_of(enum outcome outcome, unsigned code)
 {
-    return decision + (decision <= BACHUMOI_DENY ? 256 : 0);
-}
-
-static unsigned obligation_of(enum bachumoi_answer decision)
-{
-    return decision == BACHUMOI_PERMIT ? ON_PERMIT : decision == BACHUMOI_DENY ? ON_DENY : 0;
+    return outcomes[outcome].decision + (outcomes[outcome].obligation != 0 ? 256 : 0) +
+           ((uint64_t)outcomes[outcome].status << code);
 }
 
 /* At once: the number, and an output of two places with the obligation first. */
-static int decides(const uint8_t *book, const uint8_t *request, size_t request_len, enum bachumoi_answer expected)
+static int decides(const uint8_t *book, const uint8_t *request, size_t request_len, enum outcome expected)
 {
-    uint8_t *out = lend(4), left[4] = { 0, (uint8_t)obligation_of(expected) };
-    int right = bachumoi_decide(book, BOOK, request, request_len, out, 4) == number_of(expected) &&
+    uint8_t *out = lend(4), left[4] = { 0, (uint8_t)outcomes[expected].obligation };
+    int right = bachumoi_decide(book, BOOK, request, request_len, out, 4) == number_of(expected, 40) &&
                 memcmp(out, left, sizeof left) == 0;
     free(out);
     return right;
@@ -158,7 +167,7 @@ static void give_back(struct run run)
 
 /* In ticks of one step: no more of them than entries, all but the last running with an untouched output, the last with
  * the number and the obligation, and zero in every other place. */
-static int ticks(const uint8_t *book, const uint8_t *request, size_t request_len, enum bachumoi_answer expected)
+static int ticks(const uint8_t *book, const uint8_t *request, size_t request_len, enum outcome expected)
 {
     struct run run = lend_run(book);
     uint64_t number = 0, step = (uint64_t)1 << 32;
@@ -171,20 +180,19 @@ static int ticks(const uint8_t *book, const uint8_t *request, size_t request_len
         right &= bachumoi_steps(number) == 1;
         taken++;
     }
-    right &= number == (number_of(expected) | step);
+    right &= number == (number_of(expected, 24) | step);
     for (size_t i = 0; i < BACHUMOI_PLACES; i++)
-        right &= run.out[i] == (i == 0 ? obligation_of(expected) : 0);
+        right &= run.out[i] == (i == 0 ? outcomes[expected].obligation : 0);
     give_back(run);
     return right;
 }
 
-static void ask(const char *what, const struct question *q, enum bachumoi_answer expected)
+static void ask(const char *what, const struct question *q, enum outcome expected)
 {
-    static const char *const words[] = { "running", "Permit, 65", "Deny, 66", "NotApplicable", "Indeterminate" };
     size_t request_len;
     uint8_t *book = lend_book_of(q), *request = lend_request(q, &request_len);
     int right = decides(book, request, request_len, expected) && ticks(book, request, request_len, expected);
-    printf("%-44s %s\n", what, right ? words[expected] : "WRONG");
+    printf("%-44s %s\n", what, right ? outcomes[expected].words : "WRONG");
     failed |= !right;
     free(book);
     free(request);
@@ -193,7 +201,7 @@ static void ask(const char *what, const struct question *q, enum bachumoi_answer
 /* ---- The limit --------------------------------------------------------------------------------------------- */
 
 static void pressure_plus_offset(const char *what, unsigned pressures, int64_t pressure, unsigned offsets,
-                                 int64_t offset, enum bachumoi_answer expected)
+                                 int64_t offset, enum outcome expected)
 {
     struct question q = { GREATER, ADD, INTEGER, 120, pressures, offsets, (uint64_t)pressure, (uint64_t)offset };
     ask(what, &q, expected);
@@ -201,24 +209,24 @@ static void pressure_plus_offset(const char *what, unsigned pressures, int64_t p
 
 static void around_the_limit(void)
 {
-    pressure_plus_offset("117 + 3 > 120", 1, 117, 1, 3, BACHUMOI_PERMIT);
-    pressure_plus_offset("118 + 3 > 120", 1, 118, 1, 3, BACHUMOI_DENY);
-    pressure_plus_offset("126 + -6 > 120", 1, 126, 1, -6, BACHUMOI_PERMIT);
-    pressure_plus_offset("-1 + 122 > 120", 1, -1, 1, 122, BACHUMOI_DENY);
-    pressure_plus_offset("largest + 0 > 120", 1, INT64_MAX, 1, 0, BACHUMOI_DENY);
-    pressure_plus_offset("largest + 1 > 120", 1, INT64_MAX, 1, 1, BACHUMOI_INDETERMINATE);
-    pressure_plus_offset("least + 0 > 120", 1, INT64_MIN, 1, 0, BACHUMOI_PERMIT);
-    pressure_plus_offset("least + -1 > 120", 1, INT64_MIN, 1, -1, BACHUMOI_INDETERMINATE);
-    pressure_plus_offset("no offset", 1, 118, 0, 3, BACHUMOI_INDETERMINATE);
-    pressure_plus_offset("no pressure", 0, 118, 1, 3, BACHUMOI_INDETERMINATE);
-    pressure_plus_offset("pressure twice", 2, 118, 1, 3, BACHUMOI_INDETERMINATE);
+    pressure_plus_offset("117 + 3 > 120", 1, 117, 1, 3, PERMIT);
+    pressure_plus_offset("118 + 3 > 120", 1, 118, 1, 3, DENY);
+    pressure_plus_offset("126 + -6 > 120", 1, 126, 1, -6, PERMIT);
+    pressure_plus_offset("-1 + 122 > 120", 1, -1, 1, 122, DENY);
+    pressure_plus_offset("largest + 0 > 120", 1, INT64_MAX, 1, 0, DENY);
+    pressure_plus_offset("largest + 1 > 120", 1, INT64_MAX, 1, 1, PROCESSING);
+    pressure_plus_offset("least + 0 > 120", 1, INT64_MIN, 1, 0, PERMIT);
+    pressure_plus_offset("least + -1 > 120", 1, INT64_MIN, 1, -1, PROCESSING);
+    pressure_plus_offset("no offset", 1, 118, 0, 3, MISSING);
+    pressure_plus_offset("no pressure", 0, 118, 1, 3, MISSING);
+    pressure_plus_offset("pressure twice", 2, 118, 1, 3, PROCESSING);
 }
 
 /* ---- Every operator and comparison ------------------------------------------------------------------------- */
 
 /* Denies when the operator gives this result: Permit is another result, Indeterminate none. */
 static void operates(const char *what, uint8_t operator, int64_t first, int64_t second, int64_t result,
-                     enum bachumoi_answer expected)
+                     enum outcome expected)
 {
     struct question q = { EQUAL, operator, INTEGER, (uint64_t)result, 1, 1, (uint64_t)first, (uint64_t)second };
     ask(what, &q, expected);
@@ -226,18 +234,18 @@ static void operates(const char *what, uint8_t operator, int64_t first, int64_t 
 
 static void operators(void)
 {
-    operates("least - 1", SUBTRACT, INT64_MIN, 1, 0, BACHUMOI_INDETERMINATE);
-    operates("-1 - least = largest", SUBTRACT, -1, INT64_MIN, INT64_MAX, BACHUMOI_DENY);
-    operates("-3 * 7 = -21", MULTIPLY, -3, 7, -21, BACHUMOI_DENY);
-    operates("least * -1", MULTIPLY, INT64_MIN, -1, 0, BACHUMOI_INDETERMINATE);
-    operates("-7 / 2 = -3", DIVIDE, -7, 2, -3, BACHUMOI_DENY);
-    operates("-7 / 2 = -4", DIVIDE, -7, 2, -4, BACHUMOI_PERMIT);
-    operates("7 / 0", DIVIDE, 7, 0, 0, BACHUMOI_INDETERMINATE);
-    operates("least / -1", DIVIDE, INT64_MIN, -1, 0, BACHUMOI_INDETERMINATE);
-    operates("remainder of -7 by 2 = -1", REMAINDER, -7, 2, -1, BACHUMOI_DENY);
-    operates("remainder of 7 by -2 = 1", REMAINDER, 7, -2, 1, BACHUMOI_DENY);
-    operates("remainder of least by -1 = 0", REMAINDER, INT64_MIN, -1, 0, BACHUMOI_DENY);
-    operates("remainder of 7 by 0", REMAINDER, 7, 0, 0, BACHUMOI_INDETERMINATE);
+    operates("least - 1", SUBTRACT, INT64_MIN, 1, 0, PROCESSING);
+    operates("-1 - least = largest", SUBTRACT, -1, INT64_MIN, INT64_MAX, DENY);
+    operates("-3 * 7 = -21", MULTIPLY, -3, 7, -21, DENY);
+    operates("least * -1", MULTIPLY, INT64_MIN, -1, 0, PROCESSING);
+    operates("-7 / 2 = -3", DIVIDE, -7, 2, -3, DENY);
+    operates("-7 / 2 = -4", DIVIDE, -7, 2, -4, PERMIT);
+    operates("7 / 0", DIVIDE, 7, 0, 0, PROCESSING);
+    operates("least / -1", DIVIDE, INT64_MIN, -1, 0, PROCESSING);
+    operates("remainder of -7 by 2 = -1", REMAINDER, -7, 2, -1, DENY);
+    operates("remainder of 7 by -2 = 1", REMAINDER, 7, -2, 1, DENY);
+    operates("remainder of least by -1 = 0", REMAINDER, INT64_MIN, -1, 0, DENY);
+    operates("remainder of 7 by 0", REMAINDER, 7, 0, 0, PROCESSING);
 }
 
 static uint64_t bits_of(double d)
@@ -247,7 +255,7 @@ static uint64_t bits_of(double d)
     return bits;
 }
 
-static void adds(const char *what, double first, double second, double result, enum bachumoi_answer expected)
+static void adds(const char *what, double first, double second, double result, enum outcome expected)
 {
     struct question q = { EQUAL, DOUBLE_ADD, DOUBLE, bits_of(result), 1, 1, bits_of(first), bits_of(second) };
     ask(what, &q, expected);
@@ -257,12 +265,12 @@ static void adds(const char *what, double first, double second, double result, e
 static void sums_of_doubles(void)
 {
     static const double largest = 0x1.FFFFFFFFFFFFFp1023;
-    adds("1.5 + -1.5 = -0", 1.5, -1.5, -0.0, BACHUMOI_DENY);
-    adds("2^53 + 1 = 2^53", 0x1p53, 1, 0x1p53, BACHUMOI_DENY);
-    adds("2^53 + (1 + 2^-52) = 2^53 + 2", 0x1p53, 0x1.0000000000001p0, 0x1p53 + 2, BACHUMOI_DENY);
-    adds("(2^53 + 2) + 1 = 2^53 + 4", 0x1p53 + 2, 1, 0x1p53 + 4, BACHUMOI_DENY);
-    adds("largest + next below 2^970 = largest", largest, 0x1.FFFFFFFFFFFFFp969, largest, BACHUMOI_DENY);
-    adds("largest + 2^970", largest, 0x1p970, largest, BACHUMOI_INDETERMINATE);
+    adds("1.5 + -1.5 = -0", 1.5, -1.5, -0.0, DENY);
+    adds("2^53 + 1 = 2^53", 0x1p53, 1, 0x1p53, DENY);
+    adds("2^53 + (1 + 2^-52) = 2^53 + 2", 0x1p53, 0x1.0000000000001p0, 0x1p53 + 2, DENY);
+    adds("(2^53 + 2) + 1 = 2^53 + 4", 0x1p53 + 2, 1, 0x1p53 + 4, DENY);
+    adds("largest + next below 2^970 = largest", largest, 0x1.FFFFFFFFFFFFFp969, largest, DENY);
+    adds("largest + 2^970", largest, 0x1p970, largest, PROCESSING);
 }
 
 /* 118 + 3 compared with 120, 121 and 122, the sum first. */
@@ -275,7 +283,7 @@ static void comparisons(void)
         struct question q = { (uint8_t)(EQUAL + i / 3), ADD, INTEGER, limit, 1, 1, 118, 3 };
         char what[32];
         snprintf(what, sizeof what, "118 + 3 %s %u", words[i / 3], limit);
-        ask(what, &q, holds[i / 3][i % 3] ? BACHUMOI_DENY : BACHUMOI_PERMIT);
+        ask(what, &q, holds[i / 3][i % 3] ? DENY : PERMIT);
     }
 }
 

@@ -22,6 +22,8 @@ static const uint64_t programme_a[A_ENTRIES] = {
     0x90, 0x65, 0x401000722, 0x32, 0x15, 0x28, 0x229, 0x259, 0xB,
 };
 
+static const uint64_t fresh_number = (uint64_t)1 << 57; /* the first number of the fresh state, as that page has it */
+
 static int failed;
 
 static void check(const char *what, int right)
@@ -98,7 +100,7 @@ static void makes_fresh(const char *what, size_t numbers_len, size_t places_len,
     size_t made = expected == 0 ? BACHUMOI_NUMBERS : 0, cleared = expected == 0 ? BACHUMOI_PLACES : 0;
     check(what, bachumoi_fresh(numbers, numbers_len, places, places_len) == expected);
     for (size_t i = 0; i < made; i++)
-        check(what, numbers[i] == (i == 0 ? (uint64_t)1 << 56 : 0));
+        check(what, numbers[i] == (i == 0 ? fresh_number : 0));
     for (size_t i = 0; i < cleared; i++)
         check(what, places[i] == 0);
     check(what, untouched(numbers + made, (numbers_len - made) * sizeof *numbers));
@@ -167,7 +169,9 @@ static void decides_alike(const char *what, struct lent l, uint64_t number)
 {
     uint8_t *book = lend_book(), *out = lend(4);
     uint64_t decided = bachumoi_decide(book, A_RECORDS * BACHUMOI_RECORD, l.request, l.request_len, out, 4);
-    check(what, bachumoi_answer(number) == bachumoi_answer(decided) && (number & 0xFFFFFFFF) == decided);
+    uint64_t answer = bachumoi_answer(number) + 256 * (uint64_t)bachumoi_count(number);
+    check(what, decided == answer + 1099511627776 * (uint64_t)bachumoi_tick_status(number));
+    check(what, (number & 0xFFFFFFFF) == answer + 16777216 * (uint64_t)bachumoi_decide_status(decided));
     for (size_t i = 0; i < l.out_len; i++)
         check(what, l.out[i] == (i < 2 ? out[2 * i] << 8 | out[2 * i + 1] : 0));
     free(book);
@@ -191,8 +195,9 @@ static void runs(const char *what, unsigned entries, int64_t value, uint64_t bud
     memset(l.out, 0xEE, l.out_len * sizeof *l.out);
     check(what, tick(l, UINT64_MAX) == (number & 0xFFFFFFFF));
     decides_alike(what, l, number);
-    printf("%-10s steps %2u  ticks %2u  decision %u  obligations %u\n", what, (unsigned)steps, (unsigned)ticks,
-           (unsigned)bachumoi_answer(number), bachumoi_count(number));
+    printf("%-10s steps %2u  ticks %2u  decision %u  obligations %u  code %u\n", what, (unsigned)steps,
+           (unsigned)ticks, (unsigned)bachumoi_answer(number), bachumoi_count(number),
+           (unsigned)bachumoi_tick_status(number));
     give_back(l);
 }
 

@@ -25,13 +25,23 @@ extern "C" {
  *
  * The number returned is one of two.
  *
- * A decision: decision + 256 x count
+ * A decision: decision + 256 x count + 1,099,511,627,776 x code
  *
  *   bits 0-7     1  Permit
  *                2  Deny
  *                3  NotApplicable
  *                4  Indeterminate
  *   bits 8-23    count, how many obligations there are (0 unless Permit or Deny)
+ *   bits 40-47   code, why Indeterminate (0 unless Indeterminate):
+ *                1  missing attribute: the request has no value of an attribute that is wanted
+ *                2  processing error: it has several where one is wanted, or a sum has no result, or two children of
+ *                   an only-one-applicable set apply
+ *
+ *   An Indeterminate record has the code of its first Indeterminate child, in the order of the book's lines, of those
+ *   that were evaluated: a rule's effect and the algorithm make no difference, and a first operand comes before a
+ *   second. So the code speaks of the first thing to mend; when that is mended, the next may show. Only-one-applicable
+ *   takes what it meets first, a child whose target is Indeterminate or a second one that applies. A Deny that
+ *   deny-overrides makes of an Indeterminate policy is a Deny: its code is 0.
  *
  *   out then holds count numbers of two bytes each, the higher byte first, in the order in which they were handed
  *   up; every other byte of out is zero, an odd last one too.
@@ -64,7 +74,7 @@ extern "C" {
  *   bytes.
  *
  * For example, book A of examples/a with its request for 40 gives 0x102: Deny, one obligation; an out of 4
- * bytes is then 00 12 00 00.
+ * bytes is then 00 12 00 00. With no entry it gives 0x10000000004: Indeterminate, a missing attribute.
  * An empty book gives 0x1000003FF: refused, number 3, line 0, part 1.
  */
 uint64_t bachumoi_decide(const uint8_t *book, size_t book_len, const uint8_t *request, size_t request_len,
@@ -80,8 +90,16 @@ enum bachumoi_answer {
     BACHUMOI_REFUSED = 255
 };
 
+/* The code of an Indeterminate, as the standard's status codes of these names. */
+enum bachumoi_status {
+    BACHUMOI_NO_STATUS = 0, /* of every number that is not Indeterminate */
+    BACHUMOI_MISSING_ATTRIBUTE = 1,
+    BACHUMOI_PROCESSING_ERROR = 2
+};
+
 /* Taking a number apart. A switch over bachumoi_answer that forgets a case, running say, is warned of by -Wswitch (in
- * -Wall). Count is 0 unless there is a decision; number, line and part are 0 unless it is a refusal. */
+ * -Wall). Count is 0 unless there is a decision; number, line and part are 0 unless it is a refusal. The code stands at
+ * other bits in a number of bachumoi_decide than in one of bachumoi_tick, so each has a function of its own. */
 static inline enum bachumoi_answer bachumoi_answer(uint64_t number)
 {
     unsigned low = (unsigned)(number & 255);
@@ -107,6 +125,11 @@ static inline unsigned bachumoi_line(uint64_t number)
 static inline unsigned bachumoi_part(uint64_t number)
 {
     return bachumoi_refused(number) ? (unsigned)(number >> 32 & 255) : 0;
+}
+static inline enum bachumoi_status bachumoi_decide_status(uint64_t number)
+{
+    return bachumoi_answer(number) == BACHUMOI_INDETERMINATE ? (enum bachumoi_status)(number >> 40 & 255)
+                                                             : BACHUMOI_NO_STATUS;
 }
 
 /* ---- The rig's loop: link librig.a -------------------------------------------------------------------------
@@ -167,12 +190,13 @@ uint64_t bachumoi_fresh(uint64_t *numbers, size_t numbers_len, uint16_t *places,
  *   bits 0-7     0, which is no decision
  *   bits 32-63   steps, how many this tick took: its budget
  *
- *   out is as it was.
+ *   There is no code yet, whatever the run has met. out is as it was.
  *
- * Finished: decision + 256 x count + 4,294,967,296 x steps
+ * Finished: decision + 256 x count + 16,777,216 x code + 4,294,967,296 x steps
  *
  *   bits 0-7     1 Permit, 2 Deny, 3 NotApplicable, 4 Indeterminate
  *   bits 8-23    count, how many obligations there are (0 unless Permit or Deny)
+ *   bits 24-31   code, why Indeterminate, as of bachumoi_decide, there at bits 40-47 (0 unless Indeterminate)
  *   bits 32-63   steps, how many this tick took
  *
  *   out holds count obligations in the order in which they were handed up, and zero in every other place. The next tick
@@ -193,6 +217,13 @@ uint64_t bachumoi_tick(const uint64_t *programme, size_t programme_len, const ui
 
 /* Steps that a tick took: 0 where it was refused. */
 static inline uint64_t bachumoi_steps(uint64_t number) { return bachumoi_refused(number) ? 0 : number >> 32; }
+
+/* Why a tick's answer is Indeterminate. */
+static inline enum bachumoi_status bachumoi_tick_status(uint64_t number)
+{
+    return bachumoi_answer(number) == BACHUMOI_INDETERMINATE ? (enum bachumoi_status)(number >> 24 & 255)
+                                                             : BACHUMOI_NO_STATUS;
+}
 
 #ifdef __cplusplus
 }

@@ -116,6 +116,9 @@ impl<'r> Bench<'r> {
             TickAnswer::Refused(_) if steps != 0 => Some("refused after steps"),
             TickAnswer::Refused(_) if left.out != out => Some("refused, but the output changed"),
             TickAnswer::Finished { decision, .. } if !(1..=4).contains(&decision) => Some("no decision"),
+            TickAnswer::Finished { decision, code, .. } if (decision == 4) != (code != 0) || code > 2 => {
+                Some("a code that the decision does not have, or none where it has one")
+            }
             TickAnswer::Finished { count, .. } if count > PLACES => Some("more than 1,000 obligations"),
             TickAnswer::Finished { count, .. } if left.out[count..].iter().any(|&place| place != 0) => {
                 Some("finished, but a place after the obligations is not zero")

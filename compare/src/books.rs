@@ -243,6 +243,15 @@ pub fn record(kind: u8, choice: u8) -> Record {
     Record(bytes)
 }
 
+/// A record with these children.
+pub fn with(kind: u8, choice: u8, children: &[Vec<Record>]) -> Vec<Record> {
+    let mut records = vec![record(kind, choice)];
+    records.extend(children.concat());
+    let span = records.len();
+    records[0].set_span(span);
+    records
+}
+
 pub fn obligation(effect: u8, number: u16) -> Record {
     let mut made = record(OBLIGATION, effect);
     made.0[6..8].copy_from_slice(&number.to_be_bytes());

@@ -1,11 +1,10 @@
 //! Ticks on damaged programmes and states: whatever they hold, every tick keeps to document 01.
 
 use crate::bench::{Bench, Left, Machine, MOST_ENTRIES, PLACES};
-use crate::compare_ticks::{programme_of, some_book};
+use crate::compare_ticks::{programme_of, some_case};
 use crate::random::Random;
 use crate::record::{book_bytes, request_bytes};
 use crate::refusal::{refuse, Part};
-use crate::requests;
 use crate::run::Difference;
 use crate::subject::TickAnswer;
 use crate::tally::{words, Tally, Wanted};
@@ -89,10 +88,9 @@ fn outside(
 
 /// A translated programme and a request for its book.
 fn sound_programme(machine: &Machine, random: &mut Random) -> Result<(Vec<u64>, Vec<u8>), Difference> {
-    let book = some_book(random);
-    let request = request_bytes(&requests::request(random, &book));
+    let (book, entries) = some_case(random);
     let programme = programme_of(machine.rig, random, &book_bytes(&book.records), &mut Tally::default())?;
-    Ok((programme, request))
+    Ok((programme, request_bytes(&entries)))
 }
 
 /// The fresh state, or one in the middle or at the end of the run.

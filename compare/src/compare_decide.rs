@@ -1,13 +1,14 @@
 //! The comparison of deciding, through the C host.
 
-use crate::books;
+use crate::books::{self, Book};
 use crate::damage;
 use crate::decide;
+use crate::doubt;
 use crate::judge::{self, refusals_of};
 use crate::lent::Lent;
 use crate::paper;
 use crate::random::Random;
-use crate::record::{book_bytes, records, request_bytes, Record, OBLIGATION};
+use crate::record::{book_bytes, records, request_bytes, Entry, Record, OBLIGATION};
 use crate::refusal::Part;
 use crate::requests;
 use crate::run::{hex, Difference};
@@ -31,13 +32,25 @@ pub fn wanted() -> Wanted {
 
 /// Decides one generated book on one request.
 pub fn case(host: &dyn Host, random: &mut Random, tally: &mut Tally) -> Result<(), Difference> {
-    let book = books::book(random);
-    let entries = requests::request(random, &book);
+    let (book, entries) = some_case(random);
     let out = room(random, needed(&book.records), tally);
     let book = if random.chance(6) { damage::book(random, book.records) } else { book_bytes(&book.records) };
     let request = if random.chance(6) { damage::request(random, entries) } else { request_bytes(&entries) };
     check(host, &book, &request, &out, tally)
 }
+
+/// A book, and a request for it.
+fn some_case(random: &mut Random) -> (Book, Vec<Entry>) {
+    if random.chance(OF_DOUBTS) {
+        return doubt::book(random);
+    }
+    let book = books::book(random);
+    let entries = requests::request(random, &book);
+    (book, entries)
+}
+
+/// How many of a hundred books are made for what is Indeterminate in them.
+const OF_DOUBTS: usize = 5;
 
 /// The bytes of output that a book with these records needs.
 fn needed(records: &[Record]) -> usize {

@@ -2,15 +2,17 @@
 
 use crate::bench::{Bench, Left, Machine, MOST_ENTRIES, PLACES};
 use crate::books::{self, Book};
+use crate::codes::wanted_codes;
 use crate::compare_decide::bytes_of;
 use crate::damage;
 use crate::decide;
+use crate::doubt;
 use crate::expression::wanted_sums;
 use crate::judge::{self, refusals_of};
 use crate::lent::Lent;
 use crate::paper;
 use crate::random::Random;
-use crate::record::{book_bytes, request_bytes};
+use crate::record::{book_bytes, request_bytes, Entry};
 use crate::refusal::{refuse, too_short, Part, Refusal};
 use crate::requests;
 use crate::run::{hex, Difference};
@@ -24,6 +26,7 @@ const DEALINGS: [&str; 8] =
 pub fn wanted() -> Wanted {
     let mut wanted = wanted_zeros();
     wanted.extend(wanted_sums());
+    wanted.extend(wanted_codes());
     wanted.extend([
         ("translated", words(&["exact room", "more room"])),
         (refusals_of(Part::Book), numbers([2, 3, 4, 5, 9, 10, 11, 12])),
@@ -46,8 +49,8 @@ pub fn case(machine: &Machine, random: &mut Random, tally: &mut Tally) -> Result
         let damaged = damage::book(random, book.records);
         translate(machine.rig, random, &damaged, tally)?;
     }
-    let made = some_book(random);
-    let request = request_bytes(&requests::request(random, &made));
+    let (made, entries) = some_case(random);
+    let request = request_bytes(&entries);
     let book = book_bytes(&made.records);
     let programme = programme_of(machine.rig, random, &book, tally)?;
     tally.add("totals", "records".into(), made.records.len() as u64);
@@ -55,7 +58,20 @@ pub fn case(machine: &Machine, random: &mut Random, tally: &mut Tally) -> Result
     Run { machine, book: &book, bench: Bench::new(machine.rig, &programme, &request) }.check(random, tally)
 }
 
-pub fn some_book(random: &mut Random) -> Book {
+/// A book, and a request for it.
+pub fn some_case(random: &mut Random) -> (Book, Vec<Entry>) {
+    if random.chance(OF_DOUBTS) {
+        return doubt::book(random);
+    }
+    let book = some_book(random);
+    let request = requests::request(random, &book);
+    (book, request)
+}
+
+/// How many of a hundred books are made for what is Indeterminate in them.
+const OF_DOUBTS: usize = 8;
+
+fn some_book(random: &mut Random) -> Book {
     match random.below(100) {
         0..=69 => books::small_book(random),
         70..=84 => books::book_of_sums(random),
@@ -165,10 +181,11 @@ impl Run<'_> {
     /// The answer and the output are those of the evaluator, and of the host.
     fn check_answer(&self, start: &[u64], whole: &Left, tally: &mut Tally) -> Result<(), Difference> {
         let (answer, looked_at) = decide::decide(self.book, self.bench.request(), tally);
-        let (decision, count) = (answer.decision as u64, answer.obligations.len());
+        let (decision, code) = (answer.decision.number(), answer.decision.code());
+        let count = answer.obligations.len();
         let mut out = answer.obligations.clone();
         out.resize(whole.out.len(), 0);
-        if whole.tick.answer != (TickAnswer::Finished { decision, count }) || whole.out != out {
+        if whole.tick.answer != (TickAnswer::Finished { decision, count, code }) || whole.out != out {
             let fault = format!("expected {answer:?}\n book {}", hex(self.book));
             return Err(self.bench.difference(&fault, start, u64::MAX, whole));
         }
@@ -176,7 +193,7 @@ impl Run<'_> {
             let mut bytes = vec![0; 2 * PLACES];
             let got = host.decide(self.book, self.bench.request(), &mut bytes);
             let pairs = bytes.chunks(2).map(|pair| u16::from_be_bytes([pair[0], pair[1]]));
-            if got != decision + 256 * count as u64 || !pairs.eq(out.iter().copied().take(PLACES)) {
+            if got != decide::host_number(&answer) || !pairs.eq(out.iter().copied().take(PLACES)) {
                 return Err(self.bench.difference(&format!("the host says {got:#x}"), start, u64::MAX, whole));
             }
         }
@@ -292,7 +309,8 @@ pub fn check_paper(machine: &Machine) -> Result<(), Difference> {
         }
         programme.truncate((entries / 256) as usize);
         let left = Bench::new(machine.rig, &programme, &request).tick(&machine.fresh(0)?, u64::MAX, &[0; PLACES])?;
-        let expected = TickAnswer::Finished { decision: example.answer % 256, count: example.obligations.len() };
+        let (decision, count) = (example.answer % 256, example.obligations.len());
+        let expected = TickAnswer::Finished { decision, count, code: example.answer >> 40 };
         if left.tick.answer != expected || !left.out.starts_with(&example.obligations) {
             return Err(format!(" {}: expected {expected:?}, got {:?}", example.name, left.tick));
         }

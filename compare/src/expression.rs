@@ -3,7 +3,8 @@
 
 use crate::policy::*;
 use crate::record::{DOUBLE, INTEGER};
-use crate::sums::{exact, Operator, OPERATORS};
+use crate::status::{Lost, Status};
+use crate::sums::{exact, Operand, Operator, OPERATORS};
 use crate::tally::{numbers, pairs, triples, words, Wanted};
 use crate::truth::{holds, of_zeros, relation, truth_name, values_group, Evaluator, Truth, FUNCTIONS, NAMES, ZEROS};
 use crate::units::{between, border, nearest, sum, Size, Units};
@@ -16,8 +17,10 @@ impl Evaluator<'_> {
             let most = operands.iter().map(|operand| operators_in(operand, place)).max();
             self.met(IN_ONE_ANOTHER[place], most.unwrap_or(0) as u64);
         }
-        let truth = match self.operands(COMPARISONS[usize::from(operands[0].value_type()) - 1], operands) {
-            [Some(first), Some(second)] => {
+        let name = COMPARISONS[usize::from(operands[0].value_type()) - 1];
+        let mut lost = Vec::new();
+        let truth = match self.operands(name, operands, &mut lost) {
+            [Ok(first), Ok(second)] => {
                 self.met(values_group(function), relation(first, second));
                 if holds(function, first, second) {
                     Truth::True
@@ -25,60 +28,69 @@ impl Evaluator<'_> {
                     Truth::False
                 }
             }
-            _ => Truth::Unknown,
+            _ => Truth::Unknown(self.code(name, &lost)),
         };
         self.met("comparison of values", truth_name(truth));
         truth
     }
 
-    /// Both operands, whatever becomes of the first; none where one is Indeterminate.
-    fn operands(&mut self, taker: &'static str, operands: &[Expression; 2]) -> [Option<Value>; 2] {
+    /// Both operands, whatever becomes of the first.
+    fn operands(&mut self, taker: &'static str, operands: &[Expression; 2], lost: &mut Vec<Lost>) -> [Operand; 2] {
         let [first, second] = operands;
         self.met("operand", (taker, "first", first.name()));
         self.met("operand", (taker, "second", second.name()));
-        let first = self.value(first);
-        let second = self.meanwhile(|inner| inner.value(second));
-        let known = KNOWN[2 * usize::from(first.is_some()) + usize::from(second.is_some())];
+        let first = self.part(lost, (0, None), |inner| inner.value(first));
+        let second = self.part(lost, (1, None), |inner| inner.meanwhile(|inner| inner.value(second)));
+        let known = KNOWN[2 * usize::from(first.is_ok()) + usize::from(second.is_ok())];
         self.met("operands known", (taker, known));
         [first, second]
     }
 
-    fn value(&mut self, expression: &Expression) -> Option<Value> {
+    fn value(&mut self, expression: &Expression) -> Operand {
         self.look();
         match expression {
             Expression::Literal(value) => {
                 self.met(WAITING, self.waiting as u64);
-                Some(*value)
+                Ok(*value)
             }
             Expression::Attribute { key, must_be_present } => {
                 self.met(WAITING, self.waiting as u64);
                 self.one_and_only(*key, *must_be_present)
             }
             Expression::Operation { operator, operands } => {
-                let [first, second] = self.operands(operator.name(), operands);
-                self.count_operation(*operator, first, second);
-                (self.apply)(*operator, first, second)
+                let mut lost = Vec::new();
+                let [first, second] = self.operands(operator.name(), operands, &mut lost);
+                self.count_two_parts(operator.name(), &lost);
+                let result = (self.ways.apply)(*operator, first, second);
+                self.count_operation(*operator, [first, second], result);
+                result
             }
         }
     }
 
-    fn one_and_only(&mut self, key: Key, must_be_present: bool) -> Option<Value> {
+    fn one_and_only(&mut self, key: Key, must_be_present: bool) -> Operand {
         let bag = self.bag(key);
         let presence = PRESENCES[usize::from(must_be_present)];
         self.met("attribute", (TYPES[usize::from(key.value_type) - 1], BAGS[bag.len().min(2)], presence));
-        match bag[..] {
-            [value] => Some(value),
-            _ => None,
-        }
+        let status = match bag[..] {
+            [value] => return Ok(value),
+            [] => Status::Missing,
+            _ => Status::Processing,
+        };
+        self.count_cause("attribute", BAGS[bag.len().min(2)]);
+        Err(status)
     }
 
     // The counts
 
-    fn count_operation(&mut self, operator: Operator, first: Option<Value>, second: Option<Value>) {
-        match (first, second) {
-            (Some(Value::Integer(first)), Some(Value::Integer(second))) => self.count_integers(operator, first, second),
-            (Some(Value::Double(first)), Some(Value::Double(second))) => self.count_doubles(first, second),
+    fn count_operation(&mut self, operator: Operator, operands: [Operand; 2], result: Operand) {
+        match operands {
+            [Ok(Value::Integer(first)), Ok(Value::Integer(second))] => self.count_integers(operator, first, second),
+            [Ok(Value::Double(first)), Ok(Value::Double(second))] => self.count_doubles(first, second),
             _ => {}
+        }
+        if let ([Ok(first), Ok(second)], Err(_)) = (operands, result) {
+            self.count_failed_sum(operator, first, second);
         }
     }
 

@@ -5,6 +5,7 @@ mod bench;
 mod books;
 mod borders;
 mod causes;
+mod codes;
 mod compare_damaged;
 mod compare_decide;
 mod compare_judge;
@@ -12,6 +13,7 @@ mod compare_text;
 mod compare_ticks;
 mod damage;
 mod decide;
+mod doubt;
 mod expression;
 mod judge;
 mod lent;
@@ -22,6 +24,8 @@ mod operands;
 mod paper;
 #[cfg(test)]
 mod planted;
+#[cfg(test)]
+mod planted_codes;
 mod policy;
 mod random;
 mod record;
@@ -31,6 +35,9 @@ mod rig;
 mod run;
 #[cfg(test)]
 mod run_tests;
+mod status;
+#[cfg(test)]
+mod status_tests;
 mod subject;
 mod sums;
 #[cfg(test)]
@@ -41,6 +48,7 @@ mod tests;
 mod text;
 mod truth;
 mod units;
+mod wished;
 
 use bench::Machine;
 use run::{compare, Cases, Difference};

@@ -1,10 +1,11 @@
 //! Obligations of document 01's section "What is decided", and every way in which they are kept or lost.
 
 use crate::policy::*;
+use crate::status::{Outcome, Status};
 use crate::tally::{pairs, triples, words, Item, Wanted};
 use crate::truth::Evaluator;
 use std::cmp::Ordering;
-use Decision::{Deny, Indeterminate, NotApplicable, Permit};
+use Decision::{Deny, Permit};
 
 /// A decision with the obligations that are handed up.
 #[derive(Clone, PartialEq, Eq, Debug)]
@@ -13,6 +14,12 @@ pub struct Answer {
     pub obligations: Vec<u16>,
     /// Over how many levels the obligations came up.
     pub levels: usize,
+}
+
+impl Outcome for Answer {
+    fn status(&self) -> Option<Status> {
+        self.decision.status()
+    }
 }
 
 pub fn bare(decision: Decision) -> Answer {
@@ -35,7 +42,7 @@ impl Evaluator<'_> {
     /// Those of evaluated children with the same decision, in child order, then the record's own.
     pub fn conclude(&mut self, policy: &Policy, decision: Decision, evaluated: &[Answer]) -> Answer {
         let algorithm = policy.algorithm_name();
-        if decision == NotApplicable || decision == Indeterminate {
+        if decision != Permit && decision != Deny {
             self.met_if(!policy.obligations.is_empty(), "own obligations lost", (algorithm, decision.name()));
             return bare(decision);
         }
@@ -113,7 +120,7 @@ impl Evaluator<'_> {
         if self.asides > 0 {
             return;
         }
-        let turned_into_deny = stop == Indeterminate && decision == Deny;
+        let turned_into_deny = stop.status().is_some() && decision == Deny;
         let has_deny = from_stop[0].obligations.iter().any(|own| own.effect == Deny);
         let item = ("Deny", "of the Indeterminate child that stops");
         self.met_if(turned_into_deny && has_deny, "child's obligations lost", item);
@@ -162,7 +169,7 @@ impl Evaluator<'_> {
 
     /// Counts what the answer to the whole book has.
     pub fn count_answer(&mut self, answer: &Answer) {
-        if answer.decision == NotApplicable || answer.decision == Indeterminate {
+        if answer.decision != Permit && answer.decision != Deny {
             return;
         }
         let from = match (answer.obligations.is_empty(), answer.levels) {
@@ -182,7 +189,7 @@ impl Evaluator<'_> {
 
 impl Conclusion<'_> {
     fn unknown_child(&self) -> bool {
-        self.evaluated.iter().any(|child| child.decision == Indeterminate)
+        self.evaluated.iter().any(|child| child.status().is_some())
     }
 
     /// The child that the lost ones lost to: the one that stopped.

@@ -22,6 +22,9 @@ const PERMIT: u64 = 1;
 const DENY: u64 = 2;
 const NOT_APPLICABLE: u64 = 3;
 const INDETERMINATE: u64 = 4;
+/// Indeterminate with the status code that document 02, 4 gives it.
+const MISSING: u64 = INDETERMINATE + (1 << 40);
+const PROCESSING: u64 = INDETERMINATE + (2 << 40);
 
 /// The line of an entry that gives environment attribute 7 an integer.
 fn integer(value: i64) -> String {
@@ -65,16 +68,16 @@ pub fn examples() -> Vec<Example> {
     };
     let without_rules = "02010001000000000000000000000000\n".to_string();
     vec![
-        with("P1", A, String::new(), INDETERMINATE, &[]),
+        with("P1", A, String::new(), MISSING, &[]),
         with("P2", A, integer(60), PERMIT, &[17]),
         with("P3", A, integer(40), DENY, &[18]),
         with("P4", A, integer(50), PERMIT, &[17]),
         with("P5", A, integer(-1), DENY, &[18]),
-        with("P6", A, integer(40) + &integer(40), INDETERMINATE, &[]),
+        with("P6", A, integer(40) + &integer(40), PROCESSING, &[]),
         with("P7", &set(1, A), String::new(), DENY, &[]),
-        with("P8", &set(2, A), String::new(), INDETERMINATE, &[]),
-        with("P9", &set(4, &(without_rules + A)), integer(60), INDETERMINATE, &[]),
-        with("P10", P10, String::new(), INDETERMINATE, &[]),
+        with("P8", &set(2, A), String::new(), MISSING, &[]),
+        with("P9", &set(4, &(without_rules + A)), integer(60), PROCESSING, &[]),
+        with("P10", P10, String::new(), MISSING, &[]),
         with("P11", P11, String::new(), NOT_APPLICABLE, &[]),
     ]
 }

@@ -1,15 +1,16 @@
 //! An accepted book as a tree, and an accepted request as keys with values.
 
 use crate::record::*;
+use crate::status::{Outcome, Status};
 use crate::sums::Operator;
 
-/// Also the number of a rule's or an obligation's effect: 1 Permit, 2 Deny.
+/// Also a rule's or an obligation's effect: Permit or Deny.
 #[derive(Clone, Copy, PartialEq, Eq, Debug)]
 pub enum Decision {
-    Permit = 1,
-    Deny = 2,
-    NotApplicable = 3,
-    Indeterminate = 4,
+    Permit,
+    Deny,
+    NotApplicable,
+    Indeterminate(Status),
 }
 
 impl Decision {
@@ -18,8 +19,22 @@ impl Decision {
             Decision::Permit => "Permit",
             Decision::Deny => "Deny",
             Decision::NotApplicable => "NotApplicable",
-            Decision::Indeterminate => "Indeterminate",
+            Decision::Indeterminate(_) => "Indeterminate",
         }
+    }
+
+    pub fn number(self) -> u64 {
+        match self {
+            Decision::Permit => 1,
+            Decision::Deny => 2,
+            Decision::NotApplicable => 3,
+            Decision::Indeterminate(_) => 4,
+        }
+    }
+
+    /// The status code, 0 for none.
+    pub fn code(self) -> u64 {
+        self.status().map_or(0, |status| status as u64)
     }
 }
 

@@ -14,12 +14,12 @@ pub const FIELDS: [Field; 12] = [
     Field { number: 0, low: 22, width: 10, most: 1000 }, // permits
     Field { number: 0, low: 32, width: 10, most: 1000 }, // denies
     Field { number: 0, low: 42, width: 10, most: 1000 }, // cut
-    Field { number: 0, low: 52, width: 2, most: 3 },     // register
-    Field { number: 0, low: 54, width: 2, most: 3 },     // conjunction
-    Field { number: 0, low: 56, width: 2, most: 3 },     // section
-    Field { number: 0, low: 58, width: 2, most: 3 },     // target
-    Field { number: 0, low: 60, width: 1, most: 1 },     // over
-    Field { number: 0, low: 61, width: 3, most: 0 },     // unused
+    Field { number: 0, low: 52, width: 3, most: 7 },     // register
+    Field { number: 0, low: 55, width: 2, most: 3 },     // conjunction
+    Field { number: 0, low: 57, width: 2, most: 3 },     // section
+    Field { number: 0, low: 59, width: 2, most: 3 },     // target
+    Field { number: 0, low: 61, width: 1, most: 1 },     // over
+    Field { number: 0, low: 62, width: 2, most: 0 },     // unused
 ];
 
 /// A state is 33 numbers; behind them, one number each, stand the obligation places.
@@ -57,7 +57,7 @@ fn outside(random: &mut Random, of_sum: bool, programme: &mut Vec<u64>, at: usiz
 }
 
 /// Unpacks the answer of a tick: a refusal as the C host packs it; else the steps in the high 32 bits
-/// and below them 0 while running, or decision + 256 x count.
+/// and below them 0 while running, or decision + 256 x count + 16,777,216 x status code.
 #[cfg_attr(not(has_rig), allow(dead_code))]
 pub fn unpack(packed: u64) -> Tick {
     if packed % 256 == 255 {
@@ -73,7 +73,7 @@ pub fn unpack(packed: u64) -> Tick {
     let low = packed & 0xFFFF_FFFF;
     let answer = match low {
         0 => TickAnswer::Running,
-        _ => TickAnswer::Finished { decision: low % 256, count: (low / 256) as usize },
+        _ => TickAnswer::Finished { decision: low % 256, count: (low >> 8 & 65_535) as usize, code: low >> 24 },
     };
     Tick { answer, steps: packed >> 32 }
 }

@@ -26,7 +26,12 @@ pub trait Host: Sync {
 #[derive(Clone, Copy, PartialEq, Eq, Debug)]
 pub enum TickAnswer {
     Running,
-    Finished { decision: u64, count: usize },
+    /// The code is 0 for none.
+    Finished {
+        decision: u64,
+        count: usize,
+        code: u64,
+    },
     Refused(Refusal),
 }
 

@@ -1,6 +1,7 @@
 //! The operators of document 02, 3: what each makes of two values.
 
 use crate::policy::Value;
+use crate::status::Status;
 use crate::units::{nearest, sum};
 
 #[derive(Clone, Copy, PartialEq, Eq, Debug)]
@@ -38,19 +39,24 @@ impl Operator {
     }
 }
 
-/// How an operator is carried out; an operand that is Indeterminate is none.
-pub type Apply = fn(Operator, Option<Value>, Option<Value>) -> Option<Value>;
+/// A value, or why it is Indeterminate.
+pub type Operand = Result<Value, Status>;
 
-/// The operator's value; none where an operand has none, nothing results, or it does not fit.
-pub fn apply(operator: Operator, first: Option<Value>, second: Option<Value>) -> Option<Value> {
-    match (first?, second?) {
+/// How an operator is carried out.
+pub type Apply = fn(Operator, Operand, Operand) -> Operand;
+
+/// The operator's value; the code of the first operand that has none, or an error where nothing results or it does not
+/// fit.
+pub fn apply(operator: Operator, first: Operand, second: Operand) -> Operand {
+    let result = match (first?, second?) {
         (Value::Integer(first), Value::Integer(second)) => {
-            let result = exact(operator, first, second)?;
-            i64::try_from(result).ok().map(Value::Integer)
+            let result = exact(operator, first, second);
+            result.and_then(|result| i64::try_from(result).ok()).map(Value::Integer)
         }
         (Value::Double(first), Value::Double(second)) => nearest(sum(first, second)).map(Value::Double),
         _ => unreachable!("an accepted book gives an operator two operands of its type"),
-    }
+    };
+    result.ok_or(Status::Processing)
 }
 
 /// What an operator makes of two integers, whether it fits 64 bits or not; nothing by a zero divisor.

@@ -1,16 +1,17 @@
 //! The evaluator on document 02, 3: what sums are worth, and how their records are refused.
 
-use crate::books::{self, record};
+use crate::books::{self, record, with};
 use crate::decide;
 use crate::judge;
 use crate::policy::{Decision, Value};
 use crate::random::Random;
 use crate::record::*;
 use crate::refusal::Refusal;
+use crate::status::Status;
 use crate::sums::{apply, Operator};
 use crate::tally::Tally;
-use crate::tests::with;
 use crate::units::{border, nearest, sum, Size, Units};
+use crate::wished::literal;
 
 const LARGEST: i64 = i64::MAX;
 const LEAST: i64 = i64::MIN;
@@ -20,9 +21,9 @@ const INDETERMINATE: Option<i64> = None;
 
 /// What an operator makes of two integers.
 fn integer(operator: Operator, first: i64, second: i64) -> Option<i64> {
-    match apply(operator, Some(Value::Integer(first)), Some(Value::Integer(second))) {
-        Some(Value::Integer(result)) => Some(result),
-        None => None,
+    match apply(operator, Ok(Value::Integer(first)), Ok(Value::Integer(second))) {
+        Ok(Value::Integer(result)) => Some(result),
+        Err(Status::Processing) => None,
         other => panic!("{other:?} is no integer"),
     }
 }
@@ -152,13 +153,8 @@ fn sums_from_the_border_on_are_not_finite() {
 
 const PERMIT: u8 = 1;
 const FIRST_APPLICABLE: u8 = 3;
-
-fn literal(value: Value) -> Vec<Record> {
-    let mut made = record(VALUE, LITERAL);
-    made.0[5] = value.value_type();
-    made.0[8..].copy_from_slice(&value.bytes());
-    vec![made]
-}
+const MISSING: Decision = Decision::Indeterminate(Status::Missing);
+const PROCESSING: Decision = Decision::Indeterminate(Status::Processing);
 
 fn number(integer: i64) -> Vec<Record> {
     literal(Value::Integer(integer))
@@ -203,10 +199,10 @@ fn front_pressure_and_offset_pass_a_limit() {
     let pressure = |double| entry(Value::Double(double));
     assert_eq!(passes(&[pressure(59.75)]), Decision::Permit);
     assert_eq!(passes(&[pressure(59.5)]), Decision::NotApplicable);
-    assert_eq!(passes(&[]), Decision::Indeterminate);
-    assert_eq!(passes(&[pressure(70.0), pressure(70.0)]), Decision::Indeterminate);
+    assert_eq!(passes(&[]), MISSING);
+    assert_eq!(passes(&[pressure(70.0), pressure(70.0)]), PROCESSING);
     assert_eq!(passes(&[pressure(f64::MAX)]), Decision::Permit);
-    assert_eq!(passes(&[entry(Value::Integer(70))]), Decision::Indeterminate);
+    assert_eq!(passes(&[entry(Value::Integer(70))]), MISSING);
 }
 
 #[test]
@@ -215,12 +211,12 @@ fn an_indeterminate_operand_is_not_hidden() {
     for operator in [Operator::Add, Operator::Subtract, Operator::Multiply, Operator::Divide, Operator::Remainder] {
         for operands in [[failed(), number(0)], [number(0), failed()], [failed(), failed()]] {
             let sum = operation(operator, &operands);
-            assert_eq!(decided(compared(1, &[sum, number(0)]), &[]), Decision::Indeterminate);
+            assert_eq!(decided(compared(1, &[sum, number(0)]), &[]), PROCESSING);
         }
     }
     for function in 1..=5 {
-        assert_eq!(decided(compared(function, &[failed(), number(0)]), &[]), Decision::Indeterminate);
-        assert_eq!(decided(compared(function, &[number(0), attribute(INTEGER)]), &[]), Decision::Indeterminate);
+        assert_eq!(decided(compared(function, &[failed(), number(0)]), &[]), PROCESSING);
+        assert_eq!(decided(compared(function, &[number(0), attribute(INTEGER)]), &[]), MISSING);
     }
     let absent = || attribute(INTEGER + MUST_BE_PRESENT);
     assert_eq!(decided(compared(1, &[absent(), number(3)]), &[entry(Value::Integer(3))]), Decision::Permit);

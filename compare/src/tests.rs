@@ -2,7 +2,7 @@
 //! libraries: the evaluator itself must pass, and one with a planted error must be found out.
 
 use crate::bench::Machine;
-use crate::books;
+use crate::books::{self, with};
 use crate::compare_damaged;
 use crate::compare_decide::{self, bytes_of};
 use crate::compare_judge;
@@ -14,6 +14,7 @@ use crate::obligations::Answer;
 use crate::operands;
 use crate::paper;
 use crate::planted;
+use crate::planted_codes;
 use crate::policy::Decision;
 use crate::random::Random;
 use crate::record::*;
@@ -21,9 +22,10 @@ use crate::refusal::{refuse, too_short, Part, Refusal};
 use crate::rig::unpack;
 use crate::run::{compare, Cases, Difference};
 use crate::subject::{Field, Host, Judge, Rig, Texts, Tick, TickAnswer};
-use crate::sums::{self, Apply, Operator};
+use crate::sums::Operator;
 use crate::tally::{Item, Tally, Wanted};
 use crate::text;
+use crate::truth::{Ways, RIGHT};
 
 // Document 01's examples
 
@@ -125,7 +127,11 @@ fn ticks_are_unpacked() {
     assert_eq!(unpack(7 << 32), Tick { answer: TickAnswer::Running, steps: 7 });
     assert_eq!(
         unpack(1 << 32 | 2 + 256 * 3),
-        Tick { answer: TickAnswer::Finished { decision: 2, count: 3 }, steps: 1 }
+        Tick { answer: TickAnswer::Finished { decision: 2, count: 3, code: 0 }, steps: 1 }
+    );
+    assert_eq!(
+        unpack(9 << 32 | 2 << 24 | 4),
+        Tick { answer: TickAnswer::Finished { decision: 4, count: 0, code: 2 }, steps: 9 }
     );
     let refusal = refuse(8, Part::Programme);
     assert_eq!(unpack(refusal.packed()), Tick { answer: TickAnswer::Refused(refusal), steps: 0 });
@@ -139,15 +145,6 @@ const DENY_OVERRIDES: u8 = 1;
 const PERMIT_OVERRIDES: u8 = 2;
 const FIRST_APPLICABLE: u8 = 3;
 const ONLY_ONE: u8 = 4;
-
-/// A record with these children.
-pub fn with(kind: u8, choice: u8, children: &[Vec<Record>]) -> Vec<Record> {
-    let mut records = vec![books::record(kind, choice)];
-    records.extend(children.concat());
-    let span = records.len();
-    records[0].set_span(span);
-    records
-}
 
 fn duty(effect: u8) -> Vec<Record> {
     vec![books::obligation(effect, 7)]
@@ -298,6 +295,14 @@ enum Plan {
     WrapAround,
     DivideDown,
     TieAway,
+    LastCode,
+    CodeOfTheOverriding,
+    OnlyOneIsProcessing,
+    SmallerCode,
+    LargerCode,
+    CodeOfTheSecondOperand,
+    FailedSumIsMissing,
+    DenyWithCode,
     OperandLostBetweenTicks,
     OutputTouchedWhileRunning,
     StateLostOnRefusal,
@@ -353,10 +358,13 @@ impl Host for Model {
     fn decide(&self, book: &[u8], request: &[u8], out: &mut [u8]) -> u64 {
         let last = out.last().copied();
         let (book, request) = self.misread(book, request);
-        let answer = decide::host_call_by(self.apply(), &book, &request, out, &mut Tally::default());
+        let answer = decide::host_call_by(self.ways(), &book, &request, out, &mut Tally::default());
         match self.0 {
             Plan::OddByteKept if answer % 256 != 255 && out.len() % 2 == 1 => out[out.len() - 1] = last.unwrap(),
-            Plan::OrderOfObligations if answer % 256 != 255 && answer > 511 => out[..4].rotate_left(2),
+            Plan::OrderOfObligations if answer % 256 != 255 && answer >> 8 & 65_535 > 1 => out[..4].rotate_left(2),
+            Plan::DenyWithCode if answer % 256 == DENY.into() => {
+                return answer + (planted_codes::code_of_deny(&book, &request) << 40)
+            }
             _ => {}
         }
         answer
@@ -401,6 +409,7 @@ impl Rig for Model {
         let allowed =
             first.number() == state[0] && first.taken <= 2000 && state[1..].iter().all(|&place| place < 65_536);
         let allowed = allowed && first.decision <= 4 && first.count <= first.taken.min(1000);
+        let allowed = allowed && first.code <= 2 && (first.decision == 4) == (first.code != 0);
         if programme.is_empty() || programme.len() > 8008 || !allowed {
             if self.0 == Plan::StateLostOnRefusal {
                 state[0] = 0;
@@ -415,6 +424,7 @@ impl Rig for Model {
             Field { number: 0, low: 0, width: 16, most: 2000 },
             Field { number: 0, low: 16, width: 16, most: 4 },
             Field { number: 0, low: 32, width: 16, most: 1000 },
+            Field { number: 0, low: 48, width: 16, most: 2 },
         ]
     }
 
@@ -443,21 +453,23 @@ fn book_of(programme: &[u64]) -> Vec<u8> {
     programme[1..].iter().flat_map(|entry| entry.to_be_bytes()).collect()
 }
 
-/// The first number of the stand-in's state: the steps taken, the decision once finished, and the number of
-/// obligations.
+/// The first number of the stand-in's state: the steps taken, the decision once finished, the number of
+/// obligations, and the status code.
 struct First {
     taken: u64,
     decision: u64,
     count: u64,
+    code: u64,
 }
 
 impl First {
     fn of(number: u64) -> First {
-        First { taken: number & 0xFFFF, decision: number >> 16 & 0xFFFF, count: number >> 32 & 0xFFFF }
+        let field = |low: u32| number >> low & 0xFFFF;
+        First { taken: field(0), decision: field(16), count: field(32), code: field(48) }
     }
 
     fn number(&self) -> u64 {
-        self.taken | self.decision << 16 | self.count << 32
+        self.taken | self.decision << 16 | self.count << 32 | self.code << 48
     }
 }
 
@@ -473,7 +485,8 @@ fn step(state: &mut [u64], records: usize, answer: &Answer) {
         }
         Some((_, None)) => {
             let count = answer.obligations.len() as u64;
-            state[0] = First { decision: answer.decision as u64, count, taken: first.taken }.number();
+            let (decision, code) = (answer.decision.number(), answer.decision.code());
+            state[0] = First { taken: first.taken, decision, count, code }.number();
         }
     }
 }
@@ -519,9 +532,9 @@ impl Model {
         (book, request)
     }
 
-    /// How a stand-in carries out operators.
-    fn apply(&self) -> Apply {
-        match self.0 {
+    /// What a stand-in does in another way.
+    fn ways(&self) -> Ways {
+        let apply = match self.0 {
             Plan::SubtractExchanged => planted::subtract_exchanged,
             Plan::DivideExchanged => planted::divide_exchanged,
             Plan::RemainderOfTheDivisor => planted::remainder_of_the_divisor,
@@ -531,8 +544,19 @@ impl Model {
             Plan::WrapAround => planted::wrap_around,
             Plan::DivideDown => planted::divide_down,
             Plan::TieAway => planted::tie_away,
-            _ => sums::apply,
-        }
+            Plan::CodeOfTheSecondOperand => planted_codes::second_operand,
+            Plan::FailedSumIsMissing => planted_codes::missing_sum,
+            _ => RIGHT.apply,
+        };
+        let pick = match self.0 {
+            Plan::LastCode => planted_codes::last,
+            Plan::CodeOfTheOverriding => planted_codes::of_the_overriding,
+            Plan::OnlyOneIsProcessing => planted_codes::processing_of_only_one,
+            Plan::SmallerCode => planted_codes::smaller,
+            Plan::LargerCode => planted_codes::larger,
+            _ => RIGHT.pick,
+        };
+        Ways { apply, pick }
     }
 
     /// What a tick from this state works towards; nothing where the programme is no book's.
@@ -544,9 +568,9 @@ impl Model {
         }
         let inside = self.piece(programme, self.place(state)).is_some();
         let lost = self.0 == Plan::OperandLostBetweenTicks && inside;
-        let apply = if lost { planted::always_lost } else { self.apply() };
+        let ways = if lost { Ways { apply: planted::always_lost, ..RIGHT } } else { self.ways() };
         let (book, request) = self.misread(&book, request);
-        Some(decide::decide_by(apply, &book, &request, &mut Tally::default()).0)
+        Some(decide::decide_by(ways, &book, &request, &mut Tally::default()).0)
     }
 
     fn run(&self, programme: &[u64], request: &[u8], state: &mut [u64], budget: u64, out: &mut [u16]) -> Tick {
@@ -595,7 +619,8 @@ impl Model {
         let late = self.0 == Plan::EndNotKept && steps == 0;
         let decision = if late { 4 } else { first.decision.max(1) };
         let steps = if self.0 == Plan::ExtraStep && steps > 0 { (steps + 1).min(budget) } else { steps };
-        Tick { answer: TickAnswer::Finished { decision, count: first.count as usize }, steps }
+        let code = if decision == 4 { first.code.max(1) } else { 0 };
+        Tick { answer: TickAnswer::Finished { decision, count: first.count as usize, code }, steps }
     }
 }
 
@@ -696,22 +721,33 @@ const SUMS: [Plan; 10] = [
     Plan::TieAway,
 ];
 
+/// The errors that tempt in codes.
+const CODES: [Plan; 7] = [
+    Plan::LastCode,
+    Plan::CodeOfTheOverriding,
+    Plan::OnlyOneIsProcessing,
+    Plan::SmallerCode,
+    Plan::LargerCode,
+    Plan::CodeOfTheSecondOperand,
+    Plan::FailedSumIsMissing,
+];
+
 #[test]
 fn decide_comparison() {
     assert!(decide_agrees(Plan::Right, 50_000));
     let planted = [Plan::OddByteKept, Plan::OrderOfObligations, Plan::ZerosApart, Plan::NamesAsDoubles];
-    for plan in planted.into_iter().chain(SUMS) {
+    for plan in planted.into_iter().chain(SUMS).chain(CODES).chain([Plan::DenyWithCode]) {
         assert!(!decide_agrees(plan, 10_000), "{plan:?}");
     }
 }
 
 #[test]
 fn ticks_comparison() {
-    assert!(ticks_agree(Plan::Right, 8_000));
+    assert!(ticks_agree(Plan::Right, 14_000));
     let planted =
         [Plan::OutputTouchedWhileRunning, Plan::ExtraStep, Plan::EndNotKept, Plan::AnswerTooEarly, Plan::BudgetNotUsed];
     let of_values = [Plan::ZerosApart, Plan::NamesAsDoubles, Plan::OperandLostBetweenTicks];
-    for plan in planted.into_iter().chain(of_values).chain(SUMS) {
+    for plan in planted.into_iter().chain(of_values).chain(SUMS).chain(CODES) {
         assert!(!ticks_agree(plan, 5_000), "{plan:?}");
     }
 }

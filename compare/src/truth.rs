@@ -2,27 +2,39 @@
 //! part settles the answer. Each thing met on the way is counted.
 
 use crate::policy::*;
-use crate::sums::Apply;
+use crate::status::{self, Lost, Outcome, Pick, Status};
+use crate::sums::{self, Apply};
 use crate::tally::{pairs, words, Item, Tally, Wanted};
 
 #[derive(Clone, Copy, PartialEq, Eq, Debug)]
 pub enum Truth {
     True,
     False,
-    Unknown,
+    Unknown(Status),
 }
+
+/// What a stand-in with a planted error does in another way.
+#[derive(Clone, Copy)]
+pub struct Ways {
+    /// How an operator is carried out.
+    pub apply: Apply,
+    pub pick: Pick,
+}
+
+pub const RIGHT: Ways = Ways { apply: sums::apply, pick: status::first };
 
 pub struct Evaluator<'a> {
     pub attributes: &'a [Attribute],
     pub tally: &'a mut Tally,
-    /// How an operator is carried out.
-    pub apply: Apply,
+    pub ways: Ways,
     /// Above 0 while something is evaluated only to name a count.
     pub asides: usize,
     /// The open conditions, and the operands that are known and wait for a second one.
     pub waiting: usize,
     /// The records looked at.
     pub looked_at: u64,
+    /// What is counted if it turns out to be where the answer's code comes from.
+    pub shown: Vec<(&'static str, Item)>,
 }
 
 impl Evaluator<'_> {
@@ -65,7 +77,8 @@ impl Evaluator<'_> {
         let bag = self.bag(test.key);
         if bag.is_empty() && test.must_be_present {
             self.met("match", "empty bag, must be present: Indeterminate");
-            return Truth::Unknown;
+            self.count_cause("match", "empty bag");
+            return Truth::Unknown(Status::Missing);
         }
         for (index, &value) in bag.iter().enumerate() {
             self.met(match_group(test.function), relation(test.literal, value));
@@ -87,27 +100,29 @@ impl Evaluator<'_> {
             self.met("comparison", (truth_name(truth), presence));
             return truth;
         }
-        let why = if bag.is_empty() { "empty bag: Indeterminate" } else { "several values: Indeterminate" };
+        let (why, cause, status) = match bag[..] {
+            [] => ("empty bag: Indeterminate", "empty bag", Status::Missing),
+            _ => ("several values: Indeterminate", "several values", Status::Processing),
+        };
         self.met("comparison", (why, presence));
-        Truth::Unknown
+        self.count_cause("comparison", cause);
+        Truth::Unknown(status)
     }
 
     /// And over the parts (`settles` is False), or or (`settles` is True).
     fn logic<T>(&mut self, name: &'static str, settles: Truth, parts: &[T], each: fn(&mut Self, &T) -> Truth) -> Truth {
-        let mut so_far = not(settles);
-        for part in parts {
-            let truth = each(self, part);
+        let mut lost = Vec::new();
+        for (place, part) in parts.iter().enumerate() {
+            let truth = self.part(&mut lost, (place, None), |inner| each(inner, part));
             if truth == settles {
-                let after = if so_far == Truth::Unknown { "after an Indeterminate" } else { "settled" };
+                let after = if lost.is_empty() { "settled" } else { "after an Indeterminate" };
                 self.met(name, (truth_name(truth), after));
                 return settles;
             }
-            if truth == Truth::Unknown {
-                so_far = Truth::Unknown;
-            }
         }
-        self.met(name, (truth_name(so_far), if parts.is_empty() { "no parts" } else { "all parts seen" }));
-        so_far
+        let truth = if lost.is_empty() { not(settles) } else { Truth::Unknown(self.code(name, &lost)) };
+        self.met(name, (truth_name(truth), if parts.is_empty() { "no parts" } else { "all parts seen" }));
+        truth
     }
 
     pub fn condition(&mut self, condition: &Condition) -> Truth {
@@ -118,6 +133,7 @@ impl Evaluator<'_> {
             Condition::Not(part) => {
                 let truth = not(self.meanwhile(|inner| inner.condition(part)));
                 self.met("not", truth_name(truth));
+                self.count_not();
                 truth
             }
             Condition::Comparison(test) => self.comparison(test),
@@ -138,13 +154,14 @@ impl Evaluator<'_> {
     /// True is Match, False is No-match.
     pub fn target(&mut self, target: &Target) -> Truth {
         let mut so_far = Truth::True;
-        for (index, section) in target.0.iter().enumerate() {
-            match self.section(section) {
+        let mut lost = Vec::new();
+        for (place, section) in target.0.iter().enumerate() {
+            match self.part(&mut lost, (place, None), |inner| inner.section(section)) {
                 Truth::True => {}
                 Truth::False => so_far = Truth::False,
-                Truth::Unknown => {
-                    self.count_unknown_target(so_far, &target.0[index + 1..]);
-                    return Truth::Unknown;
+                Truth::Unknown(_) => {
+                    self.count_unknown_target(so_far, &target.0, &mut lost);
+                    return Truth::Unknown(self.code("target", &lost));
                 }
             }
         }
@@ -153,9 +170,17 @@ impl Evaluator<'_> {
         so_far
     }
 
-    /// Counts an Indeterminate section with a No-match before it or after it.
-    fn count_unknown_target(&mut self, before: Truth, later: &[Section]) {
-        let missed_later = self.aside(|aside| later.iter().any(|section| aside.section(section) == Truth::False));
+    /// Counts an Indeterminate section with a No-match before it or after it, and notes the later ones that are lost.
+    fn count_unknown_target(&mut self, before: Truth, sections: &[Section], lost: &mut Vec<Lost>) {
+        if self.asides > 0 {
+            return;
+        }
+        let mut missed_later = false;
+        for (place, section) in sections.iter().enumerate().skip(lost[0].place + 1) {
+            let truth = self.aside(|aside| aside.section(section));
+            missed_later |= truth == Truth::False;
+            lost.extend(truth.status().map(|status| Lost { place, effect: None, status }));
+        }
         let beside = match (before, missed_later) {
             (Truth::False, _) => "after a No-match",
             (_, true) => "before a No-match",
@@ -169,7 +194,7 @@ fn not(truth: Truth) -> Truth {
     match truth {
         Truth::True => Truth::False,
         Truth::False => Truth::True,
-        Truth::Unknown => Truth::Unknown,
+        unknown => unknown,
     }
 }
 
@@ -233,7 +258,7 @@ pub fn truth_name(truth: Truth) -> &'static str {
     match truth {
         Truth::True => "True",
         Truth::False => "False",
-        Truth::Unknown => "Indeterminate",
+        Truth::Unknown(_) => "Indeterminate",
     }
 }
 

@@ -11,7 +11,7 @@ use borrow.Author.Tests.{le-ltb}
 use Rattle.record.specs.Choose.{if}
 use Rattle.meaning.specs.Meaning.{decides, obliges}
 use Rattle.meaning.specs.Reading.{bookOf, bagsOf}
-use Rattle.meaning.specs.declared.Decision.{Decision}
+use Rattle.meaning.specs.declared.Verdict.{Verdict}
 use Rattle.layout.specs.declared.State.{State}
 use Rattle.programme.specs.Step.{freshOf}
 use Rattle.run.specs.Tick.{Ticked}
@@ -107,7 +107,7 @@ pub rows-are-ticks : RowsAreTicks
 rows-are-ticks p q ns ps enough room ts = row-holds p q ts (freshCall ns ps) freshOf fresh-sized (fresh-holds ns ps enough room .0)
 
 -- what an answer is as a number, and in the output
-module _ (s u : State) (t : Turn) (steps : ℕ) (d : Decision) (os : List ℕ) where
+module _ (s u : State) (t : Turn) (steps : ℕ) (d : Verdict) (os : List ℕ) where
   abbrev answer : Bool → Ticked
   answer x = if x (running s t) (finished u t steps d os)
 
@@ -124,7 +124,7 @@ pub every-row : EveryRow
 every-row b q n o m bytes accepted asked buffer ns ps fits enough room =
     rw (translates b buffer n o accepted fits)
     (let p : List ℕ = programmeOf b in
-    let d : Decision = decides (bagsOf q) (bookOf b) in
+    let d : Verdict = decides (bagsOf q) (bookOf b) in
     let os : List ℕ = obliges (bagsOf q) (bookOf b) in
     let w = runs-right b q n o m bytes accepted asked in
     let c : List Turn → Call = λ ts. row p q ts (freshCall ns ps) in

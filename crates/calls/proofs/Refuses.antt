@@ -10,7 +10,7 @@ use Rattle.record.specs.Choose.{if}
 use Rattle.record.specs.Bytes.{mostRecords}
 use Rattle.record.specs.Refusals.{request, refusal, noRoom, refusalNumber}
 use Rattle.record.specs.declared.Refusal.{Refusal}
-use Rattle.meaning.specs.declared.Decision.{Decision}
+use Rattle.meaning.specs.declared.Verdict.{Verdict}
 use Rattle.judge.specs.Judge.{judgeOf}
 use Rattle.judge.specs.Request.{judgeRequestOf}
 use Rattle.judge.specs.Exactly.{Breaks}
@@ -28,7 +28,8 @@ use Rattle.host.specs.Host.{hostNumber, hostOutcome, hostOut}
 use Rattle.translator.specs.Translate.{programmeOf, answerTo, translateOf, roomFor}
 use Rattle.translator.specs.declared.Translated.the-variants as translated
 use Rattle.rig.specs.Rig.{translatedNumber}
-use Rattle.rig.proofs.Parts.{small}
+use Rattle.meaning.specs.Meaning.{decisionIn}
+use Rattle.meaning.proofs.Small.{number-small}
 use Rattle.calls.specs.Refuses.{BrokenIsTold, OfBook, ToldIsBroken}
 
 pub broken-is-told : BrokenIsTold
@@ -55,7 +56,7 @@ module _ (b : List ℕ) (t : Refusal) (o : OfBook t) where
   book-told : {r : Refusal} → judgeOf b ≡ of-book.Refused r → refusalNumber r ≡ refusalNumber t → Breaks b t
   book-told {r} e v = rw (same r t (refused-small b r e) o v) at (refused-breaks b r e)
 
-  host-told : (q : List ℕ) (x : Judged) (y : JudgedRequest) (room : ℕ) (d : Decision) (n : ℕ) → judgeOf b ≡ x → judgeRequestOf q ≡ y
+  host-told : (q : List ℕ) (x : Judged) (y : JudgedRequest) (room : ℕ) (d : Verdict) (n : ℕ) → judgeOf b ≡ x → judgeRequestOf q ≡ y
       → hostNumber (inOrder x y room (Decided d n)) ≡ refusalNumber t → Breaks b t
   host-told q (of-book.Refused r) y room d n e f v = book-told e v
   host-told q (of-book.Accepted m k) (of-request.Refused r) room d n e f v =
@@ -64,7 +65,7 @@ module _ (b : List ℕ) (t : Refusal) (o : OfBook t) where
     where
       go : (u : Bool) → hostNumber (if u (Refused noRoom) (Decided d n)) ≡ refusalNumber t → Breaks b t
       go true v = absurd (omega (arith, o .part, o .number, o .line, v))
-      go false v = absurd (omega (arith, v, small d))
+      go false v = absurd (omega (arith, v, number-small (decisionIn d)))
 
   rig-told : (x : Judged) (room : ℕ) → judgeOf b ≡ x → translatedNumber (answerTo x b room) ≡ refusalNumber t → Breaks b t
   rig-told (of-book.Refused r) room e v = book-told e v

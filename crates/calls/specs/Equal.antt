@@ -21,7 +21,7 @@ use Rattle.calls.specs.Loop.{programmeIn, Answers}
 abbrev pub DecidedAlike : List ℕ → List ℕ → Type 0
 DecidedAlike q r = (b out : List ℕ) → Bytes b → (hostNumber (hostOutcome b q out) ≡ hostNumber (hostOutcome b r out)) × (hostOut b q out ≡ hostOut b r out)
 
--- every row of calls of `bachumoi_tick` with the first request, of an accepted book's programme, answers with the decision and the obligations of the second
+-- every row of calls of `bachumoi_tick` with the first request, of an accepted book's programme, answers with the decision, code and obligations of the second
 abbrev pub TickedAlike : List ℕ → List ℕ → Type 0
 TickedAlike q r =
     (b : List ℕ) (n o : ℕ) → Bytes b → judgeOf b ≡ book.Accepted n o

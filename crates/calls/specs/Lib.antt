@@ -2,3 +2,4 @@ pub mod Loop
 pub mod Decides
 pub mod Refuses
 pub mod Equal
+pub mod Codes

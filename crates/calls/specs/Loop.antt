@@ -1,5 +1,5 @@
 -- Demand 3 as the C caller sees it: a state goes out into lent numbers and places and comes back from them, and a row of calls, each with a budget and an
--- output of its own, gives the decision and the obligations. `proofs/Loop.antt` proves it. Assumes nothing.
+-- output of its own, gives the decision, its code and the obligations. `proofs/Loop.antt` proves it. Assumes nothing.
 use Prim.Native.Nat.{ℕ, _+_, _-_, _/_, _≤_, _<_}
 use mathlib.Core.Path.{_≡_}
 use mathlib.Core.List.{List, [], _∷_, _++_}
@@ -9,7 +9,7 @@ use Rattle.record.specs.Bytes.{Bytes}
 use Rattle.record.specs.Choose.{if}
 use Rattle.meaning.specs.Meaning.{decides, obliges}
 use Rattle.meaning.specs.Reading.{bookOf, bagsOf}
-use Rattle.meaning.specs.declared.Decision.{Decision}
+use Rattle.meaning.specs.declared.Verdict.{Verdict}
 use Rattle.judge.specs.Judge.{judgeOf}
 use Rattle.judge.specs.Request.{judgeRequestOf}
 use Rattle.judge.specs.declared.Judged.the-variants as book
@@ -59,14 +59,14 @@ RowsAreTicks =
     → Holds (row p q ts (freshCall numbers places)) (afterTurns p q ts freshOf)
 
 -- the number and the output of a call after `before` steps dealt out, where the run takes k
-abbrev pub numberAt : ℕ → ℕ → ℕ → Decision → List ℕ → ℕ
+abbrev pub numberAt : ℕ → ℕ → ℕ → Verdict → List ℕ → ℕ
 numberAt k before budget d os = if (ltb (before + budget) k) (runningNumber budget) (finishedNumber d (length os) (k - before))
 
 abbrev pub outAt : ℕ → ℕ → ℕ → List ℕ → List ℕ → List ℕ
 outAt k before budget os out = if (ltb (before + budget) k) out (os ++ replicate (length out - length os) 0)
 
 -- there is a number of steps, at least one and at most the entries, by which every call of every row gives its number and fills its output
-pub record Answers (p q : List ℕ) (c : Call) (d : Decision) (os : List ℕ) : Type 0 where
+pub record Answers (p q : List ℕ) (c : Call) (d : Verdict) (os : List ℕ) : Type 0 where
   pub steps : ℕ
   pub begun : 0 < steps
   pub few : steps ≤ length p

@@ -18,7 +18,7 @@ use Rattle.meaning.specs.Policy.{Expr, literal, attribute, operate}
 use Rattle.meaning.specs.Meaning.{Bags, theOnly, operated, worth, weighed}
 use Rattle.meaning.specs.declared.Truth.{Truth}
 use Rattle.meaning.specs.declared.Truth.the-variants.{True, False, Unknown}
-use Rattle.meaning.specs.declared.Decision.{Decision}
+use Rattle.meaning.specs.declared.Verdict.{Verdict}
 use Rattle.layout.specs.declared.Op.the-variants.{All}
 use Rattle.layout.specs.declared.Frame.{Frame}
 use Rattle.layout.specs.Entry.{works, tests, Entry, sum}
@@ -30,27 +30,27 @@ use Rattle.code.proofs.Lists.{State, at, step}
 use Rattle.code.proofs.Goes.{Goes, stay, move, goes-on}
 
 -- a worth on top of the levels
-abbrev pub holding : Worth → List Entry → List Frame → List ℕ → Decision → Truth → Truth → List ℕ → List ℕ → State
+abbrev pub holding : Worth → List Entry → List Frame → List ℕ → Verdict → Truth → Truth → List ℕ → List ℕ → State
 holding w es fs ls r o t ps ds = at es fs (wordOf w ∷ ls) r (markOf w) o t ps ds
 
 -- an operator finds what its operands left: first with mark a, second since then
 operates : (a : Truth) (o : Operator) (x y : Worth)
     → since (markOf (since (markOf (since a x)) y)) (worked o (wordOf (since a x)) (wordOf (since (markOf (since a x)) y))) ≡ since a (operated o x y)
 operates True o (Is x) (Is y) = refl
-operates True o (Is x) Lost = refl
-operates True o Lost y = refl
+operates True o (Is x) (Lost s) = refl
+operates True o (Lost s) y = refl
 operates False o (Is x) (Is y) = refl
-operates False o (Is x) Lost = refl
-operates False o Lost y = refl
-operates Unknown o x y = refl
+operates False o (Is x) (Lost s) = refl
+operates False o (Lost s) y = refl
+operates (Unknown s) o x y = refl
 
 weighing : (f : Function) (k : ℕ) (x y : Worth)
     → tested (markOf (since (markOf x) y)) f k (wordOf x) (wordOf (since (markOf x) y)) ≡ weighed f k x y
 weighing f k (Is x) (Is y) = refl
-weighing f k (Is x) Lost = refl
-weighing f k Lost y = refl
+weighing f k (Is x) (Lost s) = refl
+weighing f k (Lost s) y = refl
 
-module _ (g : Bags) (fs : List Frame) (r : Decision) (o t : Truth) (ps ds : List ℕ) where
+module _ (g : Bags) (fs : List Frame) (r : Verdict) (o t : Truth) (ps ds : List ℕ) where
   -- there is room for one more
   pushed : (w : Worth) (post : List Entry) (ls : List ℕ) → length ls < roomL
       → Goes g (at post fs (if (ltb (length ls) roomL) (wordOf w ∷ ls) ls) r (markOf w) o t ps ds) (holding w post fs ls r o t ps ds)
@@ -75,7 +75,7 @@ module _ (g : Bags) (fs : List Frame) (r : Decision) (o t : Truth) (ps ds : List
       worked-out e = rw e stay
 
 -- two values and their comparison: a level of a condition that has its value stands on top
-pub sim-two : (f : Function) (k : ℕ) (x y : Expr) (g : Bags) (post : List Entry) (fs : List Frame) (ls : List ℕ) (r : Decision) (ps ds : List ℕ)
+pub sim-two : (f : Function) (k : ℕ) (x y : Expr) (g : Bags) (post : List Entry) (fs : List Frame) (ls : List ℕ) (r : Verdict) (ps ds : List ℕ)
     → nestExpr x + length ls ≤ roomL → suc (nestExpr y) + length ls ≤ roomL
     → Goes g (at (codeExpr x ++ (codeExpr y ++ (sum (tests f k) ∷ post))) fs ls r True False True ps ds)
     (at post fs (level All (weighed f k (worth g x) (worth g y)) ∷ ls) r True False True ps ds)

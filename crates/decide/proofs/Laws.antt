@@ -13,8 +13,9 @@ use Rattle.text.specs.declared.Filled.the-variants as read
 use Rattle.text.proofs.Accepted.{filled-first}
 use Rattle.line.specs.Line.{decisionLine, refusalLine, placesOf, put, longest}
 use Rattle.line.proofs.Laws.{length-refusal, length-decision, put-found, places-fits}
+use Rattle.meaning.specs.Meaning.{decisionIn}
 use Rattle.meaning.specs.Numbers.{numberOf}
-use Rattle.meaning.specs.declared.Decision.{Decision}
+use Rattle.meaning.specs.declared.Verdict.{Verdict}
 use Rattle.decider.specs.Outcome.{dutiesOf, outcomeOf, outOf}
 use Rattle.decider.specs.declared.Outcome.{Outcome}
 use Rattle.decider.specs.declared.Outcome.the-variants.{Decided, Refused}
@@ -44,13 +45,13 @@ module _ (b q places : List ℕ) {a : Outcome} {after : List ℕ}
   pub decided-refused : (r : Refusal) → a ≡ Refused r → refusalLine r ≡ decidedLine b q
   decided-refused r e = sym (line-is e)
 
-  pub decided-stands : (d : Decision) (n : ℕ) (l : List ℕ) {x m : ℕ} {later : List ℕ} → a ≡ Decided d n → x ≡ numberOf d → length after ≡ length places → longest ≤ length l
+  pub decided-stands : (d : Verdict) (n : ℕ) (l : List ℕ) {x m : ℕ} {later : List ℕ} → a ≡ Decided d n → x ≡ numberOf (decisionIn d) → length after ≡ length places → longest ≤ length l
       → m ≡ placesOf (decisionLine x (take n after)) (length l) → later ≡ put (decisionLine x (take n after)) l → Stands (decidedLine b q) later m
   decided-stands d n l {x} {m} {later} e number kept h p w =
       let puts = decided-puts b q places outcome e left kept in
       let few : length (dutiesOf b q) ≤ mostRecords = omega (arith, length-take n after, ap length (puts .1)) in
       rw (line-is e)
-      (stands (decisionLine (numberOf d) (dutiesOf b q)) l later m (omega (arith, length-decision (numberOf d) (dutiesOf b q))) (rw (puts .1, number) at p) (rw (puts .1, number) at w))
+      (stands (decisionLine (numberOf (decisionIn d)) (dutiesOf b q)) l later m (omega (arith, length-decision (numberOf (decisionIn d)) (dutiesOf b q))) (rw (puts .1, number) at p) (rw (puts .1, number) at w))
 
 -- what is printed, by what was read
 module _ (text asked records entries : List ℕ) {a : Filled} (long : length records ≡ (size * mostRecords)) (book-read : a ≡ readOf book text (length records)) where

@@ -9,6 +9,7 @@ use Rattle.text.specs.Text.{book, request, lineLength, readOf, byteAt}
 use Rattle.text.specs.declared.Filled.{Filled}
 use Rattle.text.specs.declared.Filled.the-variants as read
 use Rattle.line.specs.Line.{decisionLine, refusalLine}
+use Rattle.meaning.specs.Meaning.{decisionIn}
 use Rattle.meaning.specs.Numbers.{numberOf}
 use Rattle.decider.specs.Outcome.{outcomeOf, dutiesOf}
 use Rattle.decider.specs.declared.Outcome.{Outcome}
@@ -16,7 +17,7 @@ use Rattle.decider.specs.declared.Outcome.the-variants.{Decided, Refused}
 
 -- the line of what is decided: the decision with its obligations, or the refusal
 abbrev pub outcomeLine : Outcome → List ℕ → List ℕ
-outcomeLine (Decided d n) duties = decisionLine (numberOf d) duties
+outcomeLine (Decided d n) duties = decisionLine (numberOf (decisionIn d)) duties
 outcomeLine (Refused r) duties = refusalLine r
 
 -- the line for the records of a book and a request; there is room for as many obligations as a book can have records

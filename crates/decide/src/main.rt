@@ -16,8 +16,8 @@ fn outcome_line(book: &[u8], request: &[u8], places: &mut [u16], out: &mut [u8])
     ensures { λ r. ⌜ (r ≤ length (now (out .exit))) × (take r (now (out .exit)) ≡ decidedLine (now (book .entry)) (now (request .entry))) ⌝ }
 {
     match decider::decide(book, request, places) {
-        Outcome::Decided(decision, count) => line::decision_line(
-            meaning::number(decision),
+        Outcome::Decided(verdict, count) => line::decision_line(
+            meaning::number(meaning::decision_in(verdict)),
             places,
             count,
             out,

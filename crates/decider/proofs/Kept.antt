@@ -7,14 +7,14 @@ use Prim.Native.Nat.{ℕ}
 use lib.Dec.{ltb}
 use Rattle.record.specs.Choose.{if, both}
 use Rattle.record.proofs.Choose.{both-parts}
-use Rattle.meaning.specs.Meaning.{decisionOf, Child, said, owed, is, combine, hands, handed, binding}
+use Rattle.meaning.specs.Meaning.{decisionOf, Child, said, owed, is, isOnly, combine, hands, handed, binding}
 use Rattle.meaning.specs.declared.Effect.{Effect}
 use Rattle.meaning.specs.declared.Effect.the-variants.{Permits, Denies}
 use Rattle.meaning.specs.declared.Decision.{Decision}
 use Rattle.meaning.specs.declared.Decision.the-variants.{Permit, Deny, NotApplicable, Indeterminate}
 use Rattle.meaning.specs.declared.Algorithm.{Algorithm}
 use Rattle.meaning.specs.declared.Algorithm.the-variants.{RulesDeny, RulesPermit, First, PoliciesDeny, PoliciesPermit, OnlyOne}
-use Rattle.algorithm.specs.Fold.{isOnly, start, join, rankOf, result, settled, absorb}
+use Rattle.algorithm.specs.Fold.{start, join, rankOf, result, settled, absorb}
 use Rattle.algorithm.specs.declared.Rank.{Rank}
 use Rattle.algorithm.specs.declared.Rank.the-variants.{R0, R1, R2, R3, R4}
 use Rattle.algorithm.specs.declared.Acc.{Acc}
@@ -192,9 +192,9 @@ module _ (a : Algorithm) (plain : isOnly a ≡ false) where
     gives = λ d. refl;
   }
 
-  pub stand-end : {cs : List Child} {acc : Acc} {xs : List ℕ} → Standing a cs acc [] xs → (result a acc ≡ combine a cs) × (xs ≡ upOf a cs)
+  pub stand-end : {cs : List Child} {acc : Acc} {xs : List ℕ} → Standing a cs acc [] xs → xs ≡ upOf a cs
   unfolding walk gave upOf
-  stand-end {cs} {acc} {xs} w = (w .says, w .stands ∙ (rw (w .says) (go (combine a cs) refl)))
+  stand-end {cs} {acc} {xs} w = w .stands ∙ (rw (w .says) (go (combine a cs) refl))
     where
       all : (x : Effect) → combine a cs ≡ decisionOf x → w .up (decisionOf x) ≡ handed a (decisionOf x) cs
       all x e = sym (append-nil (w .up (decisionOf x))) ∙ w .gives (decisionOf x) ∙ gave-right a x cs e

@@ -1,5 +1,5 @@
--- Document 01's examples P1 to P11, computed from the bytes of its hexadecimal lines: judged, decided, and what is left in four places.
--- Assumes nothing.
+-- Document 01's examples P1 to P11, with the codes of document 02, section 4, computed from the bytes of its hexadecimal lines: judged, decided,
+-- and what is left in four places. Assumes nothing.
 use mathlib.Core.Path.{_≡_, refl}
 use mathlib.Core.List.{List, [], _∷_}
 use Prim.Native.Nat.{ℕ}
@@ -11,12 +11,13 @@ use Rattle.value.specs.Value.{signed64, finiteOf, valueOf, functionOf}
 use Rattle.fields.specs.First.{countBelow, lastBelow, firstFrom}
 use Rattle.fields.specs.Fields.{kindOf, kindAt, typeOf, typeAt, finite, zeros, plainOk, sectionOk, comparesOk, obligationOk, fieldOk, obligationsOf}
 use Rattle.fields.specs.Entries.{entryOk}
+use Rattle.sums.specs.declared.Status.the-variants.{Missing, Processing}
 use Rattle.meaning.specs.Logic.{andAll, orAll, targetAll}
 use Rattle.meaning.specs.Numbers.{keyBy}
-use Rattle.meaning.specs.Meaning.{gives, matchIn, matchOf, comparisonOf, conditionOf, conditionsOf, conjunctionOf, sectionOf, sectionsOf, targetOf, whenOf, ruleOf, combine, handed, ownOf, nodeOf, ruleChild, ruleChildren, childOf, childrenOf, decides, obliges}
+use Rattle.meaning.specs.Meaning.{gives, matchIn, matchOf, comparisonOf, conditionOf, conditionsOf, conjunctionOf, sectionOf, sectionsOf, targetOf, whenOf, ruleOf, combine, handed, ownOf, verdictOf, nodeOf, ruleChild, ruleChildren, childOf, childrenOf, decides, obliges}
 use Rattle.meaning.specs.Reading.{keyAt, testAt, matchAt, comparisonAt, rowOf, childrenAt, conjunctionAt, sectionAt, targetIn, conditionAt, conditionsIn, whenIn, ruleAt, rulesIn, obligationsIn, treeAt, treesIn, bookOf, bagFrom, bagsOf}
-use Rattle.meaning.specs.declared.Decision.{Decision}
-use Rattle.meaning.specs.declared.Decision.the-variants.{Permit, Deny, NotApplicable, Indeterminate}
+use Rattle.meaning.specs.declared.Verdict.{Verdict}
+use Rattle.meaning.specs.declared.Verdict.the-variants.{Permit, Deny, NotApplicable, Indeterminate}
 use Rattle.operands.specs.Parent.{endOf, parentOf}
 use Rattle.operands.specs.Operands.{operandsAt}
 use Rattle.placement.specs.Place.{elderOf, depthOf, holdsConditions, singleOf, rankAt, elderRank, standsOk, childRule, childBroken, topOk, brokenAt, placeOk}
@@ -77,20 +78,22 @@ record Row : Type 0 where
 run : List ℕ → List ℕ → Row
 run b q = record { answer = outcomeOf (lines b) (lines q) 4; places = outOf (lines b) (lines q) (9 ∷ 9 ∷ 9 ∷ 9 ∷ []) }
 
-none : Decision → Row
-none d = record { answer = Decided d 0; places = 0 ∷ 0 ∷ 0 ∷ 0 ∷ [] }
+none : Verdict → Row
+none v = record { answer = Decided v 0; places = 0 ∷ 0 ∷ 0 ∷ 0 ∷ [] }
 
-one : Decision → ℕ → Row
-one d x = record { answer = Decided d 1; places = x ∷ 0 ∷ 0 ∷ 0 ∷ [] }
+one : Verdict → ℕ → Row
+one v x = record { answer = Decided v 1; places = x ∷ 0 ∷ 0 ∷ 0 ∷ [] }
 
+-- missing: the Deny rule's bag is empty (P1, P8), as is the bag of the subjects section's match (P10); a processing error: a bag of two (P6), two children
+-- that apply (P9); a Deny made from an Indeterminate child has no code (P7)
 table : run bookA [] ∷ run bookA (is60 ∷ []) ∷ run bookA (is40 ∷ []) ∷ run bookA (is50 ∷ []) ∷ run bookA (isMinus1 ∷ []) ∷ run bookA (is40 ∷ is40 ∷ [])
     ∷ run denySet [] ∷ run permitSet [] ∷ run onlySet (is60 ∷ []) ∷ run twoSections [] ∷ run oneConjunction [] ∷ []
-    ≡ none Indeterminate ∷ one Permit 17 ∷ one Deny 18 ∷ one Permit 17 ∷ one Deny 18 ∷ none Indeterminate
-    ∷ none Deny ∷ none Indeterminate ∷ none Indeterminate ∷ none Indeterminate ∷ none NotApplicable ∷ []
+    ≡ none (Indeterminate Missing) ∷ one Permit 17 ∷ one Deny 18 ∷ one Permit 17 ∷ one Deny 18 ∷ none (Indeterminate Processing)
+    ∷ none Deny ∷ none (Indeterminate Missing) ∷ none (Indeterminate Processing) ∷ none (Indeterminate Missing) ∷ none NotApplicable ∷ []
 unfolding run none one lines bytes bookA denySet permitSet onlySet twoSections oneConjunction is40 is50 is60 isMinus1
     outcomeOf outOf dutiesOf judgeOf judgeRecords judgeRequestOf judgeEntries placeOk brokenAt topOk childBroken childRule standsOk operandsAt elderRank rankAt singleOf holdsConditions depthOf elderOf parentOf endOf
     entryOk obligationsOf fieldOk obligationOk comparesOk sectionOk plainOk zeros finite typeAt typeOf kindAt kindOf firstFrom lastBelow countBelow allBelow
-    decides obliges childOf childrenOf ruleChildren ruleChild nodeOf ownOf handed combine ruleOf whenOf targetOf sectionsOf sectionOf conjunctionOf conditionOf conditionsOf comparisonOf matchOf matchIn gives keyBy
+    decides obliges childOf childrenOf ruleChildren ruleChild nodeOf verdictOf ownOf handed combine ruleOf whenOf targetOf sectionsOf sectionOf conjunctionOf conditionOf conditionsOf comparisonOf matchOf matchIn gives keyBy
     bookOf treesIn treeAt obligationsIn rulesIn ruleAt whenIn conditionsIn conditionAt targetIn sectionAt conjunctionAt childrenAt rowOf comparisonAt matchAt testAt keyAt bagsOf bagFrom
     forest growF spanIn spanOf bigOf functionOf valueOf finiteOf signed64 andAll orAll targetAll
 table = refl

@@ -15,10 +15,10 @@ use Rattle.record.specs.Refusals.{noRoom}
 use Rattle.record.specs.declared.Refusal.{Refusal}
 use Rattle.fields.specs.Fields.{obligationsOf}
 use Rattle.fields.proofs.First.{by}
-use Rattle.meaning.specs.Meaning.{said, owed, decides, obliges}
+use Rattle.meaning.specs.Meaning.{verdictIn, owed, decides, obliges}
 use Rattle.meaning.specs.Reading.{bookOf, bagsOf}
 use Rattle.meaning.proofs.Alike.{counts-by-tests}
-use Rattle.meaning.specs.declared.Decision.{Decision}
+use Rattle.meaning.specs.declared.Verdict.{Verdict}
 use Rattle.judge.specs.Judge.{judgeOf}
 use Rattle.judge.specs.Request.{judgeRequestOf}
 use Rattle.judge.specs.declared.Judged.{Judged}
@@ -46,14 +46,14 @@ book-is : (b : List ℕ) (n : ℕ) → length b ≡ n * size → bookOf b ≡ tr
 unfolding bookOf treeFrom
 book-is b n e = let q : length b / size ≡ n = omega arith in rw q
 
-pub answered : (b q : List ℕ) (n : ℕ) {l o f : List ℕ} {room m : ℕ} {d : Decision} → length b ≡ n * size
-    → Ruled l 0 (said (childAt b (bagsOf q) 0 n)) (owed (childAt b (bagsOf q) 0 n .target) (childAt b (bagsOf q) 0 n .duties)) room o d m
-    → length o ≡ length l → f ≡ take m o ++ replicate (length o - m) 0 → Answered b q l f d m
+pub answered : (b q : List ℕ) (n : ℕ) {l o f : List ℕ} {room m : ℕ} {v : Verdict} → length b ≡ n * size
+    → Ruled l 0 (verdictIn (childAt b (bagsOf q) 0 n)) (owed (childAt b (bagsOf q) 0 n .target) (childAt b (bagsOf q) 0 n .duties)) room o v m
+    → length o ≡ length l → f ≡ take m o ++ replicate (length o - m) 0 → Answered b q l f v m
 unfolding dutiesOf decides obliges childAt
 answered b q n e w k c =
-    let v : decides (bagsOf q) (bookOf b) ≡ said (childAt b (bagsOf q) 0 n) = rw (book-is b n e) in
+    let y : decides (bagsOf q) (bookOf b) ≡ verdictIn (childAt b (bagsOf q) 0 n) = rw (book-is b n e) in
     let x : dutiesOf b q ≡ owed (childAt b (bagsOf q) 0 n .target) (childAt b (bagsOf q) 0 n .duties) = rw (book-is b n e) in
-    record { says = rw v (w .says); puts = rw x (omega (arith, w .puts .holds .count)); leaves = rw x (cleared (w .puts .holds) k c) }
+    record { says = rw y (w .says); puts = rw x (omega (arith, w .puts .holds .count)); leaves = rw x (cleared (w .puts .holds) k c) }
 
 -- judged in order
 module _ (b q l : List ℕ) where
@@ -70,8 +70,8 @@ module _ (b q l : List ℕ) where
     unfolding outcomeOf outOf
     refused-room f g er = (rw (← ej, e, ← eh, f, lt-ltb _ _ g, er), rw (← ej, e, ← eh, f, lt-ltb _ _ g))
 
-    pub decided : {m c : ℕ} {d : Decision} {o : List ℕ} → h ≡ request.Accepted m → k ≤ length l → Answered b q l o d c
-        → (Decided d c ≡ outcomeOf b q (length l)) × (o ≡ outOf b q l)
+    pub decided : {m c : ℕ} {v : Verdict} {o : List ℕ} → h ≡ request.Accepted m → k ≤ length l → Answered b q l o v c
+        → (Decided v c ≡ outcomeOf b q (length l)) × (o ≡ outOf b q l)
     unfolding outcomeOf outOf
     decided f g w = (rw (← ej, e, ← eh, f, le-ltb _ _ g, w .says, w .puts), rw (← ej, e, ← eh, f, le-ltb _ _ g) (w .leaves))
 
@@ -101,21 +101,21 @@ most-room b q room = go (judgeOf b) refl (judgeRequestOf q) (Decided (decides (b
         rw (room-test room k (omega (arith, w .0, w .1)))
 
 -- what an answer says of its call
-inverted : (j : Judged) (h : JudgedRequest) (room : ℕ) (v : Decision) (m : ℕ) {d : Decision} {n : ℕ} → inOrder j h room (Decided v m) ≡ Decided d n → n ≡ m
+inverted : (j : Judged) (h : JudgedRequest) (room : ℕ) (v : Verdict) (m : ℕ) {u : Verdict} {n : ℕ} → inOrder j h room (Decided v m) ≡ Decided u n → n ≡ m
 inverted (book.Refused r) h room v m e = cc
 inverted (book.Accepted n k) (request.Refused r) room v m e = cc
 inverted (book.Accepted n k) (request.Accepted p) room v m e = go (ltb room k) e
   where
-    go : (t : Bool) {d : Decision} {n : ℕ} → if t (Refused noRoom) (Decided v m) ≡ Decided d n → n ≡ m
+    go : (t : Bool) {u : Verdict} {n : ℕ} → if t (Refused noRoom) (Decided v m) ≡ Decided u n → n ≡ m
     go true e = cc
     go false e = cc
 
-pub decided-puts : (b q l : List ℕ) {e : List ℕ} {o : Outcome} {d : Decision} {n : ℕ} → o ≡ outcomeOf b q (length l) → o ≡ Decided d n → e ≡ outOf b q l
+pub decided-puts : (b q l : List ℕ) {e : List ℕ} {o : Outcome} {v : Verdict} {n : ℕ} → o ≡ outcomeOf b q (length l) → o ≡ Decided v n → e ≡ outOf b q l
     → length e ≡ length l → (n ≤ length e) × (take n e ≡ dutiesOf b q)
 unfolding outcomeOf outOf
-decided-puts b q l {e} {o} {d} {n} eo ed ee el =
-    let c : n ≡ length (dutiesOf b q) = inverted (judgeOf b) (judgeRequestOf q) (length l) (decides (bagsOf q) (bookOf b)) (length (dutiesOf b q)) (sym eo ∙ ed) in
-    let x : e ≡ dutiesOf b q ++ replicate (length l - length (dutiesOf b q)) 0 = rw (← eo, ed) at ee in
+decided-puts b q l {e} {o} {v} {n} eo ev ee el =
+    let c : n ≡ length (dutiesOf b q) = inverted (judgeOf b) (judgeRequestOf q) (length l) (decides (bagsOf q) (bookOf b)) (length (dutiesOf b q)) (sym eo ∙ ev) in
+    let x : e ≡ dutiesOf b q ++ replicate (length l - length (dutiesOf b q)) 0 = rw (← eo, ev) at ee in
     let y : length e ≡ length (dutiesOf b q) + length (replicate {A = ℕ} (length l - length (dutiesOf b q)) 0) = ap length x ∙ length-append (dutiesOf b q) (replicate (length l - length (dutiesOf b q)) 0) in
     (omega (arith, y, c), rw x (take-at (dutiesOf b q) (replicate (length l - length (dutiesOf b q)) 0) n (sym c)))
 

@@ -6,14 +6,17 @@ use mathlib.Core.List.{List, [], _∷_, _++_}
 use lib.ListN.{length, replicate}
 use Rattle.record.specs.Choose.{if, both}
 use Rattle.record.specs.Forest.{Forest, none, node, forest, height}
+use Rattle.sums.specs.declared.Status.the-variants.{Processing}
 use Rattle.meaning.specs.Logic.{some}
 use Rattle.meaning.specs.Policy.{Tree, policy, set}
-use Rattle.meaning.specs.Meaning.{Bags, Child, is, decisionOf, unsure, applying, combine, handed, binding, overPolicies, childOf, childrenOf, decides}
+use Rattle.meaning.specs.Meaning.{Bags, Child, is, decisionOf, unsure, applying, combine, handed, binding, verdictOf, overPolicies, childOf, childrenOf, decides}
 use Rattle.meaning.specs.Reading.{isKind, choiceAt, effectOf, treeAt, treesIn, bookOf, bagsOf}
 use Rattle.meaning.specs.declared.Truth.{Truth}
 use Rattle.meaning.specs.declared.Truth.the-variants.{True, False, Unknown}
 use Rattle.meaning.specs.declared.Decision.{Decision}
 use Rattle.meaning.specs.declared.Decision.the-variants.{Permit, Deny, NotApplicable, Indeterminate}
+use Rattle.meaning.specs.declared.Verdict.{Verdict}
+use Rattle.meaning.specs.declared.Verdict.the-variants as verdict
 use Rattle.meaning.specs.declared.Algorithm.{Algorithm}
 use Rattle.meaning.specs.declared.Algorithm.the-variants.{OnlyOne}
 use Rattle.decider.specs.Outcome.{dutiesOf}
@@ -74,9 +77,9 @@ pub record Put (l : List ℕ) (n : ℕ) (xs : List ℕ) (room : ℕ) (e : List �
   pub holds : Holds l n xs e m
   pub within : m ≤ n + room
 
--- and the decision is v
-pub record Ruled (l : List ℕ) (n : ℕ) (v : Decision) (xs : List ℕ) (room : ℕ) (e : List ℕ) (d : Decision) (m : ℕ) : Type 0 where
-  pub says : d ≡ v
+-- and the verdict is v
+pub record Ruled (l : List ℕ) (n : ℕ) (v : Verdict) (xs : List ℕ) (room : ℕ) (e : List ℕ) (u : Verdict) (m : ℕ) : Type 0 where
+  pub says : u ≡ v
   pub puts : Put l n xs room e m
 
 -- record j with the span s stands among `count` records from `from` on, and its target matches
@@ -96,25 +99,27 @@ pub record Single (b : List ℕ) (g : Bags) (from count j s : ℕ) : Type 0 wher
 
 -- what the targets of the children leave to only-one
 unfoldable pub Picked : List ℕ → Bags → ℕ → ℕ → Pick → Type 0
-Picked b g from count Nobody = combine OnlyOne (childrenIn b g from count) ≡ NotApplicable
+Picked b g from count Nobody = verdictOf OnlyOne (childrenIn b g from count) ≡ verdict.NotApplicable
 Picked b g from count (One j s) = Single b g from count j s
-Picked b g from count Many = combine OnlyOne (childrenIn b g from count) ≡ Indeterminate
+Picked b g from count (Many why) = verdictOf OnlyOne (childrenIn b g from count) ≡ verdict.Indeterminate why
 
--- a target more
+-- a target more: an Indeterminate one, or a second that matches, which is a processing error; the first such counts
 abbrev pub picking : Pick → Truth → ℕ → ℕ → Pick
 picking p False i s = p
-picking p Unknown i s = Many
 picking Nobody True i s = One i s
-picking (One j t) True i s = Many
-picking Many True i s = Many
+picking (One j t) True i s = Many Processing
+picking (Many why) True i s = Many why
+picking Nobody (Unknown why) i s = Many why
+picking (One j t) (Unknown why) i s = Many why
+picking (Many why) (Unknown later) i s = Many why
 
 abbrev pub isMany : Pick → Bool
 isMany Nobody = false
 isMany (One j s) = false
-isMany Many = true
+isMany (Many why) = true
 
 -- the answer of a book, and what it leaves of the places l
-pub record Answered (b q l e : List ℕ) (d : Decision) (n : ℕ) : Type 0 where
-  pub says : d ≡ decides (bagsOf q) (bookOf b)
+pub record Answered (b q l e : List ℕ) (v : Verdict) (n : ℕ) : Type 0 where
+  pub says : v ≡ decides (bagsOf q) (bookOf b)
   pub puts : n ≡ length (dutiesOf b q)
   pub leaves : e ≡ dutiesOf b q ++ replicate (length l - length (dutiesOf b q)) 0

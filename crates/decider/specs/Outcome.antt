@@ -30,13 +30,13 @@ inOrder (book.Refused r) x room answer = Refused r
 inOrder (book.Accepted n k) (request.Refused r) room answer = Refused r
 inOrder (book.Accepted n k) (request.Accepted m) room answer = if (ltb room k) (Refused noRoom) answer
 
--- the decision, and how many obligations
+-- the verdict, and how many obligations
 unfoldable pub outcomeOf : List ℕ → List ℕ → ℕ → Outcome
 outcomeOf b q room = inOrder (judgeOf b) (judgeRequestOf q) room (Decided (decides (bagsOf q) (bookOf b)) (length (dutiesOf b q)))
 
 -- the obligations first, and zero in every other place; a refusal leaves all as it was
 abbrev pub filled : Outcome → List ℕ → List ℕ → List ℕ
-filled (Decided d n) xs l = xs ++ replicate (length l - length xs) 0
+filled (Decided v n) xs l = xs ++ replicate (length l - length xs) 0
 filled (Refused r) xs l = l
 
 unfoldable pub outOf : List ℕ → List ℕ → List ℕ → List ℕ

@@ -5,38 +5,39 @@ use meaning::Algorithm;
 use meaning::Decision;
 use meaning::Effect;
 use meaning::Truth;
+use meaning::Verdict;
 use record::Refusal;
+use sums::Status;
 ghost use mathlib.Core.Path.{_≡_};
 ghost use mathlib.Core.Bool.{false};
 ghost use Prim.Native.Nat.{_+_, _*_, _-_, _<_, _≤_};
 ghost use lib.ListN.{length};
 ghost use Rattle.record.specs.Bytes.{size};
 ghost use Rattle.record.specs.Forest.{forest, height};
-ghost use Rattle.meaning.specs.Meaning.{is, said, owed, combine, ownOf, binding};
+ghost use Rattle.meaning.specs.Meaning.{is, verdictIn, owed, isOnly, verdictOf, ownOf, binding};
 ghost use Rattle.meaning.specs.Reading.{obligationsIn, bagsOf};
-ghost use Rattle.algorithm.specs.Fold.{isOnly};
 ghost use Rattle.fields.specs.Fields.{obligationsOf};
 ghost use Rattle.decider.specs.Outcome.{outcomeOf, outOf};
 ghost use Rattle.decider.specs.Inside.{Answered, childAt, childrenIn, isDue, keeps, upOf, upAt, directOf, roomOf, deepOf, Put, Ruled, Picked, picking, isMany};
 
 mod places;
 
-// The decision and how many obligations were put, or a refusal.
+// The verdict and how many obligations were put, or a refusal.
 pub enum Outcome {
-    Decided(Decision, usize),
+    Decided(Verdict, usize),
     Refused(Refusal),
 }
 
-// The one child whose target matches, by place and span, for only-one.
+// The one child whose target matches, by place and span, for only-one; where that cannot be one, why.
 enum Pick {
     Nobody,
     One(usize, usize),
-    Many,
+    Many(Status),
 }
 
-// A decision, and how many places its obligations end at.
+// A verdict, and how many places its obligations end at.
 struct Ruling {
-    decision: Decision,
+    verdict: Verdict,
     count: usize,
 }
 
@@ -55,19 +56,6 @@ fn stay(d: Decision, v: Decision) -> bool
         Decision::Deny => same(d, Decision::Deny),
         Decision::NotApplicable => false,
         Decision::Indeterminate => false,
-    }
-}
-
-fn is_only(a: Algorithm) -> bool
-    ensures { λ r. ⌜ r ≡ isOnly a ⌝ }
-{
-    match a {
-        Algorithm::RulesDeny => false,
-        Algorithm::RulesPermit => false,
-        Algorithm::First => false,
-        Algorithm::PoliciesDeny => false,
-        Algorithm::PoliciesPermit => false,
-        Algorithm::OnlyOne => true,
     }
 }
 
@@ -131,11 +119,15 @@ fn note(p: Pick, t: Truth, i: usize, s: usize) -> Pick
 {
     match t {
         Truth::False => p,
-        Truth::Unknown => Pick::Many,
+        Truth::Unknown(why) => match p {
+            Pick::Nobody => Pick::Many(why),
+            Pick::One(_, _) => Pick::Many(why),
+            Pick::Many(_) => p,
+        },
         Truth::True => match p {
             Pick::Nobody => Pick::One(i, s),
-            Pick::One(_, _) => Pick::Many,
-            Pick::Many => Pick::Many,
+            Pick::One(_, _) => Pick::Many(Status::Processing),
+            Pick::Many(_) => p,
         },
     }
 }
@@ -146,7 +138,7 @@ fn is_many(p: Pick) -> bool
     match p {
         Pick::Nobody => false,
         Pick::One(_, _) => false,
-        Pick::Many => true,
+        Pick::Many(_) => true,
     }
 }
 
@@ -168,7 +160,7 @@ fn choose(book: &[u8], request: &[u8], from: usize, count: usize) -> Pick
         let t = rules::target(book, request, i + 1, s - 1);
         p = note(p, t, i, s);
         if is_many(p) {
-            return Pick::Many;
+            return p;
         }
         i += s;
         left -= s;
@@ -176,7 +168,7 @@ fn choose(book: &[u8], request: &[u8], from: usize, count: usize) -> Pick
     p
 }
 
-// Record i with the span s as its parent sees it: its decision, and its obligations on top of n places. `depth` levels may lie below it.
+// Record i with the span s as its parent sees it: its verdict, and its obligations on top of n places. `depth` levels may lie below it.
 fn child(
     book: &[u8],
     request: &[u8],
@@ -188,18 +180,18 @@ fn child(
 ) -> Ruling
     requires { ⌜ (0 < s) × ((i + s) * size ≤ length (now book)) × (n + roomOf (now book) (forest (now book) (i + 1) (s - 1)) ≤ length (now out))
         × (height (forest (now book) (i + 1) (s - 1)) ≤ depth) ⌝ }
-    ensures { λ r. ⌜ Ruled (now (out .entry)) n (said (childAt (now (book .entry)) (bagsOf (now (request .entry))) i s))
+    ensures { λ r. ⌜ Ruled (now (out .entry)) n (verdictIn (childAt (now (book .entry)) (bagsOf (now (request .entry))) i s))
         (owed (childAt (now (book .entry)) (bagsOf (now (request .entry))) i s .target) (childAt (now (book .entry)) (bagsOf (now (request .entry))) i s .duties))
-        (roomOf (now (book .entry)) (forest (now (book .entry)) (i + 1) (s - 1))) (now (out .exit)) (r .decision) (r .count) ⌝ }
+        (roomOf (now (book .entry)) (forest (now (book .entry)) (i + 1) (s - 1))) (now (out .exit)) (r .verdict) (r .count) ⌝ }
 {
     let t = rules::target(book, request, i + 1, s - 1);
     match t {
         Truth::False => Ruling {
-            decision: Decision::NotApplicable,
+            verdict: Verdict::NotApplicable,
             count: n,
         },
-        Truth::Unknown => Ruling {
-            decision: Decision::Indeterminate,
+        Truth::Unknown(why) => Ruling {
+            verdict: Verdict::Indeterminate(why),
             count: n,
         },
         Truth::True => body(book, request, i, s, depth, out, n),
@@ -220,13 +212,13 @@ fn body(
         × (height (forest (now book) (i + 1) (s - 1)) ≤ depth) ⌝ }
     ensures { λ r. ⌜ Ruled (now (out .entry)) n (childAt (now (book .entry)) (bagsOf (now (request .entry))) i s .body)
         (childAt (now (book .entry)) (bagsOf (now (request .entry))) i s .duties)
-        (roomOf (now (book .entry)) (forest (now (book .entry)) (i + 1) (s - 1))) (now (out .exit)) (r .decision) (r .count) ⌝ }
+        (roomOf (now (book .entry)) (forest (now (book .entry)) (i + 1) (s - 1))) (now (out .exit)) (r .verdict) (r .count) ⌝ }
 {
     let r = gather(book, request, i, s, depth, out, n);
-    let d = r.decision;
-    let m = own(book, i + 1, s - 1, d, out, r.count);
+    let v = r.verdict;
+    let m = own(book, i + 1, s - 1, meaning::decision_in(v), out, r.count);
     Ruling {
-        decision: d,
+        verdict: v,
         count: m,
     }
 }
@@ -245,27 +237,27 @@ fn gather(
         × (height (forest (now book) (i + 1) (s - 1)) ≤ depth) ⌝ }
     ensures { λ r. ⌜ Ruled (now (out .entry)) n (childAt (now (book .entry)) (bagsOf (now (request .entry))) i s .body)
         (upAt (now (book .entry)) (bagsOf (now (request .entry))) i s)
-        (deepOf (now (book .entry)) (forest (now (book .entry)) (i + 1) (s - 1))) (now (out .exit)) (r .decision) (r .count) ⌝ }
+        (deepOf (now (book .entry)) (forest (now (book .entry)) (i + 1) (s - 1))) (now (out .exit)) (r .verdict) (r .count) ⌝ }
 {
     let kind = record::byte(book, i, 0);
     let choice = record::byte(book, i, 1);
     if kind != 1 {
-        let d = rules::rules(book, request, i + 1, s - 1, choice);
+        let v = rules::rules(book, request, i + 1, s - 1, choice);
         return Ruling {
-            decision: d,
+            verdict: v,
             count: n,
         };
     }
     let a = meaning::over_policies(choice);
-    if is_only(a) {
+    if meaning::is_only(a) {
         let p = choose(book, request, i + 1, s - 1);
         return match p {
             Pick::Nobody => Ruling {
-                decision: Decision::NotApplicable,
+                verdict: Verdict::NotApplicable,
                 count: n,
             },
-            Pick::Many => Ruling {
-                decision: Decision::Indeterminate,
+            Pick::Many(why) => Ruling {
+                verdict: Verdict::Indeterminate(why),
                 count: n,
             },
             Pick::One(j, t) => body(book, request, j, t, depth - 1, out, n),
@@ -287,13 +279,13 @@ fn walk(
 ) -> Ruling
     requires { ⌜ ((from + count) * size ≤ length (now book)) × (n + deepOf (now book) (forest (now book) from count) ≤ length (now out))
         × (height (forest (now book) from count) ≤ depth) × (isOnly a ≡ false) ⌝ }
-    ensures { λ r. ⌜ Ruled (now (out .entry)) n (combine a (childrenIn (now (book .entry)) (bagsOf (now (request .entry))) from count))
+    ensures { λ r. ⌜ Ruled (now (out .entry)) n (verdictOf a (childrenIn (now (book .entry)) (bagsOf (now (request .entry))) from count))
         (upOf a (childrenIn (now (book .entry)) (bagsOf (now (request .entry))) from count))
-        (deepOf (now (book .entry)) (forest (now (book .entry)) from count)) (now (out .exit)) (r .decision) (r .count) ⌝ }
+        (deepOf (now (book .entry)) (forest (now (book .entry)) from count)) (now (out .exit)) (r .verdict) (r .count) ⌝ }
 {
     let mut i = from;
     let mut left = count;
-    let mut acc = algorithm::begin(a);
+    let mut k = algorithm::tally::begin(a);
     let mut m = n;
     while 0 < left {
         let s = record::span_in(book, i, left);
@@ -304,16 +296,19 @@ fn walk(
         }
         let next = i + s;
         let r = child(book, request, i, s, depth - 1, out, m);
-        let d = r.decision;
+        let v = r.verdict;
         let e = r.count;
-        let before = algorithm::outcome(a, acc);
+        let d = meaning::decision_in(v);
+        let earlier = k.acc;
+        let before = algorithm::outcome(a, earlier);
         // A child here is no rule: the effect counts for nothing.
-        acc = algorithm::take_in(a, acc, Effect::Permits, d);
+        k = algorithm::tally::take_in(a, k, Effect::Permits, v);
+        let acc = k.acc;
         let after = algorithm::outcome(a, acc);
         m = places::settle(out, n, m, e, stay(before, after), stay(d, after));
         if algorithm::settles(a, acc) {
             return Ruling {
-                decision: after,
+                verdict: algorithm::tally::verdict(a, k),
                 count: m,
             };
         }
@@ -321,7 +316,7 @@ fn walk(
         left -= s;
     }
     Ruling {
-        decision: algorithm::outcome(a, acc),
+        verdict: algorithm::tally::verdict(a, k),
         count: m,
     }
 }
@@ -333,7 +328,7 @@ const MOST_BELOW: usize = 15;
 fn answer(book: &[u8], request: &[u8], records: usize, out: &mut [u16]) -> Ruling
     requires { ⌜ (0 < records) × (length (now book) ≡ records * size) × (obligationsOf (now book) records ≤ length (now out))
         × (height (forest (now book) 1 (records - 1)) ≤ 15) ⌝ }
-    ensures { λ r. ⌜ Answered (now (book .entry)) (now (request .entry)) (now (out .entry)) (now (out .exit)) (r .decision) (r .count) ⌝ }
+    ensures { λ r. ⌜ Answered (now (book .entry)) (now (request .entry)) (now (out .entry)) (now (out .exit)) (r .verdict) (r .count) ⌝ }
 {
     let r = child(book, request, 0, records, MOST_BELOW, out, 0);
     let n = r.count;
@@ -341,7 +336,7 @@ fn answer(book: &[u8], request: &[u8], records: usize, out: &mut [u16]) -> Rulin
     r
 }
 
-// Judges book, request and output, then decides: the decision, and the obligations first in out and zeros after them. A refusal leaves out as
+// Judges book, request and output, then decides: the verdict, and the obligations first in out and zeros after them. A refusal leaves out as
 // it was.
 pub fn decide(book: &[u8], request: &[u8], out: &mut [u16]) -> Outcome
     ensures { λ r. ⌜ (r ≡ outcomeOf (now (book .entry)) (now (request .entry)) (length (now (out .entry))))
@@ -359,8 +354,8 @@ pub fn decide(book: &[u8], request: &[u8], out: &mut [u16]) -> Outcome
                     return Outcome::Refused(record::no_room());
                 }
                 let r = answer(book, request, records, out);
-                let d = r.decision;
-                Outcome::Decided(d, r.count)
+                let v = r.verdict;
+                Outcome::Decided(v, r.count)
             }
         },
     }

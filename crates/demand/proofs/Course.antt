@@ -12,8 +12,8 @@ use native.Mathlib.Omega.{arith}
 use borrow.Author.Tests.{lt-ltb}
 use Rattle.record.specs.Choose.{if}
 use Rattle.meaning.specs.Meaning.{Bags}
-use Rattle.meaning.specs.declared.Decision.{Decision}
-use Rattle.meaning.specs.declared.Decision.the-variants.{Permit, Deny, NotApplicable, Indeterminate}
+use Rattle.meaning.specs.declared.Verdict.{Verdict}
+use Rattle.meaning.specs.declared.Verdict.the-variants.{Permit, Deny, NotApplicable, Indeterminate}
 use Rattle.layout.specs.declared.State.{State}
 use Rattle.layout.specs.Entry.{Entry, further, isFurther, lawful}
 use Rattle.layout.specs.Layout.{unpackOf, packOf, allowed, fetch}
@@ -63,18 +63,18 @@ module _ (p : List ℕ) (es : List Entry) (g : Bags) (same : length p ≡ length
       each h ih (suc i) l = ih i (omega (arith, l))
 
   -- from the fresh state, where the flat machine's run answers
-  module _ (d : Decision) (os : List ℕ) (w : Answers g (fetch p) es (flatOf freshOf) d os) where
+  module _ (d : Verdict) (os : List ℕ) (w : Answers g (fetch p) es (flatOf freshOf) d os) where
     reached : (n : ℕ) → n ≤ w .steps → flatOf (afterSteps p g n freshOf) ≡ flatRun g (fetch p) (length es) n (flatOf freshOf)
     reached n l = walked n freshOf fresh-allowed (λ k h. w .along k (omega (arith, h, l))) .1
 
     at-end : flatOf (afterSteps p g (w .steps) freshOf) ≡ w .ends
     at-end = reached (w .steps) (omega arith) ∙ w .runs
 
-    few-counted : (r : Decision) → countBy r (w .ends .head) ≤ roomP
+    few-counted : (r : Verdict) → countBy r (w .ends .head) ≤ roomP
     few-counted Permit = w .small .permitted
     few-counted Deny = omega (arith, w .small .denied)
     few-counted NotApplicable = omega arith
-    few-counted Indeterminate = omega arith
+    few-counted (Indeterminate s) = omega arith
 
     answered : (s : State) → flatOf s ≡ w .ends → Answered s d os
     unfolding isOver firstPlaces countOf flatOf

@@ -14,7 +14,7 @@ use Rattle.record.proofs.Laws.{big-two}
 use Rattle.meaning.specs.Policy.{Tree}
 use Rattle.meaning.specs.Meaning.{Bags, decides, obliges}
 use Rattle.meaning.specs.Reading.{keyAt, testAt, matchAt, comparisonAt, bookOf, bagsOf}
-use Rattle.meaning.specs.declared.Decision.{Decision}
+use Rattle.meaning.specs.declared.Verdict.{Verdict}
 use Rattle.meaning.specs.declared.Effect.the-variants.{Permits, Denies}
 use Rattle.judge.specs.Judge.{judgeOf}
 use Rattle.judge.specs.Request.{judgeRequestOf}
@@ -132,7 +132,7 @@ few-entries b n o w e = spelled b n o w e .short
 
 -- ticks of a programme with such a run
 module _ (p q : List ℕ) (m : ℕ) (asked : judgeRequestOf q ≡ request.Accepted m) (long : length p ≤ 8008)
-    (d : Decision) (os : List ℕ) (w : Course p (bagsOf q) d os) where
+    (d : Verdict) (os : List ℕ) (w : Course p (bagsOf q) d os) where
   abbrev g : Bags
   g = bagsOf q
 

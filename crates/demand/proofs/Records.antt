@@ -10,7 +10,7 @@ use Rattle.meaning.specs.Meaning.{decides, obliges}
 use Rattle.meaning.specs.Policy.{Tree}
 use Rattle.meaning.specs.Reading.{bookOf}
 use Rattle.meaning.specs.declared.Test.{Test}
-use Rattle.meaning.specs.declared.Decision.{Decision}
+use Rattle.meaning.specs.declared.Verdict.{Verdict}
 use Rattle.meaning.specs.declared.Effect.the-variants.{Permits, Denies}
 use Rattle.layout.specs.Entry.{Entry, begin, match, further, opens, compare, close, sum, rule, enter, applies, conclude, oblige, leave, finish}
 use Rattle.moves.specs.Core.{atOnce}
@@ -65,7 +65,7 @@ unfolding flatOf Codes
 only-records b n o bytes accepted g budget k =
     let p : List ℕ = programmeOf b in
     let es : List Entry = translated (bookOf b) in
-    let d : Decision = decides g (bookOf b) in
+    let d : Verdict = decides g (bookOf b) in
     let os : List ℕ = obliges g (bookOf b) in
     let s = demand.spelled b n o bytes accepted in
     let w = course p es g (s .same) (s .long) (s .reads) (s .laws) d os (s .answers g) in

@@ -11,11 +11,11 @@ use Rattle.value.specs.Value.{functionOf, valueOf, signed64, finiteOf}
 use Rattle.meaning.specs.Numbers.{keyBy}
 use Rattle.meaning.specs.Meaning.{comparisonOf, gives}
 use Rattle.meaning.specs.Reading.{keyAt, testAt, matchAt, comparisonAt, rowOf, childrenAt, conjunctionAt, sectionAt, targetIn, conditionAt, conditionsIn, whenIn, ruleAt, rulesIn, obligationsIn, treeAt, treesIn, bookOf, bagFrom, bagsOf}
-use Rattle.meaning.specs.declared.Decision.the-variants.{Deny}
+use Rattle.meaning.specs.declared.Verdict.the-variants.{Deny}
 use Rattle.layout.specs.Entry.{lawful}
 use Rattle.moves.specs.Core.{core}
 use Rattle.stacks.specs.Machine.{copies}
-use Rattle.layout.specs.Layout.{wordsOf, testWord, fetch, entryOf, entryBy, compareBy, testOf, unpackOf, packOf, truthBy, decisionBy, effectBy, algorithmBy, accBy, rankBy, frameOf, frameWord}
+use Rattle.layout.specs.Layout.{wordsOf, testWord, fetch, entryOf, entryBy, compareBy, testOf, unpackOf, packOf, truthBy, causeBy, verdictBy, effectBy, algorithmBy, accBy, rankBy, frameOf, frameWord}
 use Rattle.programme.specs.Step.{mayStep, stepOf, isOver, after, headAfter, seen, freshOf}
 use Rattle.run.specs.Run.{runOf}
 use Rattle.code.specs.Code.{codeConjunction, codeSection, codeTarget, codeCondition, codeConditions, codeWhen, codeRule, codeRules, codeObligations, codeBody, codeWithin, codeShell, codeTree, codeTrees, owns, obligations, obligationsAll, codeTop, programme, translated, inNumbers}
@@ -47,6 +47,6 @@ ran : (runOf page (bagsOf (lines (is40 ∷ []))) 20 freshOf .ok ≡ true) × (ru
     × (unpackOf (runOf page (bagsOf (lines (is40 ∷ []))) 20 freshOf .state .head) .denies ≡ 1)
     × (getD (runOf page (bagsOf (lines (is40 ∷ []))) 20 freshOf .state .places) 0 7 ≡ 18)
 unfolding bytes lines is40 page
-    runOf isOver mayStep stepOf after headAfter seen core lawful copies fetch entryOf entryBy compareBy testOf unpackOf packOf truthBy decisionBy effectBy algorithmBy accBy rankBy frameOf frameWord freshOf
+    runOf isOver mayStep stepOf after headAfter seen core lawful copies fetch entryOf entryBy compareBy testOf unpackOf packOf truthBy causeBy verdictBy effectBy algorithmBy accBy rankBy frameOf frameWord freshOf
     bagsOf bagFrom bigOf comparisonOf gives keyBy functionOf valueOf signed64 finiteOf
 ran = (refl, refl, refl, refl, refl, refl)

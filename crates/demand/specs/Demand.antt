@@ -9,7 +9,7 @@ use Rattle.record.specs.Bytes.{Bytes}
 use Rattle.record.specs.Choose.{if}
 use Rattle.meaning.specs.Meaning.{Bags, decides, obliges}
 use Rattle.meaning.specs.Reading.{bookOf, bagsOf}
-use Rattle.meaning.specs.declared.Decision.{Decision}
+use Rattle.meaning.specs.declared.Verdict.{Verdict}
 use Rattle.judge.specs.Judge.{judgeOf}
 use Rattle.judge.specs.Request.{judgeRequestOf}
 use Rattle.judge.specs.declared.Judged.the-variants as book
@@ -48,31 +48,31 @@ dealtOut [] = 0
 dealtOut (t ∷ ts) = deals t + dealtOut ts
 
 -- what a tick gives after `before` steps were dealt out, where the run takes k: running, with all its steps taken, and the output as it was; once k are dealt
--- out, finished, with the steps that were left, the decision, and the obligations in the output
+-- out, finished, with the steps that were left, the decision and its code, and the obligations in the output
 abbrev pub running : State → Turn → Ticked
 running s t = record { tick = record { state = s; steps = t .budget; answer = Running }; out = t .out }
 
-abbrev pub finished : State → Turn → ℕ → Decision → List ℕ → Ticked
+abbrev pub finished : State → Turn → ℕ → Verdict → List ℕ → Ticked
 finished s t steps d os = record {
   tick = record { state = s; steps = steps; answer = Finished d (length os) };
   out = os ++ replicate (length (t .out) - length os) 0;
 }
 
-abbrev pub answerAt : List ℕ → Bags → ℕ → ℕ → Turn → Decision → List ℕ → Ticked
+abbrev pub answerAt : List ℕ → Bags → ℕ → ℕ → Turn → Verdict → List ℕ → Ticked
 answerAt p g k before t d os =
     if (ltb (before + t .budget) k)
     (running (afterSteps p g (before + t .budget) freshOf) t)
     (finished (afterSteps p g k freshOf) t (k - before) d os)
 
 -- there is a number of steps, at least one and at most the entries, by which every tick of every row of ticks answers
-pub record Runs (p q : List ℕ) (d : Decision) (os : List ℕ) : Type 0 where
+pub record Runs (p q : List ℕ) (d : Verdict) (os : List ℕ) : Type 0 where
   pub steps : ℕ
   pub begun : 0 < steps
   pub few : steps ≤ length p
   pub gives : (ts : List Turn) (t : Turn) → roomP ≤ length (t .out)
       → ticked p q (afterTurns p q ts freshOf) t ≡ answerAt p (bagsOf q) steps (dealtOut ts) t d os
 
--- for every accepted book and every accepted request, with the decision and the obligations of the meaning
+-- for every accepted book and every accepted request, with the decision, code and obligations of the meaning
 abbrev pub RunsRight : Type 0
 RunsRight =
     (b q : List ℕ) (n o m : ℕ) → Bytes b → judgeOf b ≡ book.Accepted n o → judgeRequestOf q ≡ request.Accepted m

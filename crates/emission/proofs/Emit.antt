@@ -15,7 +15,7 @@ use Rattle.record.specs.Bytes.{size, byteOf}
 use Rattle.record.specs.Forest.{Forest, spanIn, forest}
 use Rattle.record.proofs.Forests.{forest-none, forest-more}
 use Rattle.meaning.specs.Policy.{last, more, Conjunction, Section, Target, compares, all, any}
-use Rattle.meaning.specs.Meaning.{overRules, overPolicies, same}
+use Rattle.meaning.specs.Meaning.{overRules, overPolicies, same, isOnly}
 use Rattle.meaning.specs.Reading.{isKind, isParty, choiceAt, comparisonAt, sectionAt, targetIn, notAt, exprsIn, weighsAt, conditionAt, conditionsIn, whenIn, effectOf, ruleAt, rulesIn, obligationsIn, rulesBy, policiesBy, treeAt, treesIn, bookOf}
 use Rattle.meaning.proofs.Cases.{tree-by}
 use Rattle.meaning.specs.declared.Test.{Test}
@@ -23,7 +23,6 @@ use Rattle.meaning.specs.declared.Effect.{Effect}
 use Rattle.meaning.specs.declared.Effect.the-variants.{Permits, Denies}
 use Rattle.meaning.specs.declared.Algorithm.{Algorithm}
 use Rattle.meaning.specs.declared.Algorithm.the-variants.{RulesDeny, RulesPermit, First, PoliciesDeny, PoliciesPermit, OnlyOne}
-use Rattle.algorithm.specs.Fold.{isOnly}
 use Rattle.layout.specs.Entry.{Entry, begin, match, further, opens, compare, close, rule, enter, applies, conclude, oblige, leave, finish, extra}
 use Rattle.layout.specs.Layout.{bitOf, effectCode, opCode, algorithmCode, testWord, wordsOf}
 use Rattle.layout.specs.declared.Op.{Op}

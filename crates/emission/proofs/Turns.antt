@@ -11,12 +11,11 @@ use borrow.Author.Tests.{eq-eqb, ne-eqb, eqb-true, eqb-false}
 use Rattle.record.specs.Bytes.{size, byteOf, bigOf}
 use Rattle.record.specs.Forest.{Forest, none, node, spanIn, forest}
 use Rattle.record.proofs.Forests.{forest-none, forest-step, span-pos, span-le}
-use Rattle.meaning.specs.Meaning.{overPolicies}
+use Rattle.meaning.specs.Meaning.{overPolicies, isOnly}
 use Rattle.meaning.specs.Reading.{matchAt, comparisonAt, rowOf, childrenAt, conjunctionAt, sectionAt, conditionsIn, effectOf, rulesIn, obligationsIn, treesIn, policiesBy, isKind, isParty, choiceAt, bookOf}
 use Rattle.record.specs.Choose.{if}
 use Rattle.meaning.specs.declared.Effect.{Effect}
 use Rattle.meaning.specs.declared.Effect.the-variants.{Permits, Denies}
-use Rattle.algorithm.specs.Fold.{isOnly}
 use Rattle.layout.specs.Entry.{Entry, begin, match, further, opens, compare, close, rule, conclude, oblige, finish}
 use Rattle.layout.specs.declared.Op.the-variants.{Not}
 use Rattle.layout.specs.Layout.{effectCode}

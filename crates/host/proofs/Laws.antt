@@ -8,7 +8,7 @@ use lib.ListN.{length, take, drop, set, getD, replicate, length-append}
 use lib.Seq.{length-take-le, take-suc, drop-cons, append-snoc, set-at, take-at}
 use Rattle.record.specs.Bytes.{mostRecords}
 use Rattle.record.specs.declared.Refusal.{Refusal}
-use Rattle.meaning.specs.declared.Decision.{Decision}
+use Rattle.meaning.specs.declared.Verdict.{Verdict}
 use Rattle.decider.specs.Outcome.{dutiesOf, outcomeOf, outOf}
 use Rattle.decider.specs.declared.Outcome.{Outcome}
 use Rattle.decider.specs.declared.Outcome.the-variants.{Decided, Refused}
@@ -60,7 +60,7 @@ module _ (b q ps l : List ℕ) {o : Outcome} (room : length ps ≡ min (length l
   unfolding hostOut
   host-refused e ex = let w : hostOutcome b q l ≡ Refused _ = sym (same-outcome b q ps l room) ∙ sym eo ∙ e in (rw w ex, rw w)
 
-  module _ {e : List ℕ} {d : Decision} {n : ℕ} (ed : o ≡ Decided d n) (ee : e ≡ outOf b q ps) (el : length e ≡ length ps) where
+  module _ {e : List ℕ} {d : Verdict} {n : ℕ} (ed : o ≡ Decided d n) (ee : e ≡ outOf b q ps) (el : length e ≡ length ps) where
     pub host-fits : (n ≤ length e) × (n * 2 ≤ length l) × (n ≤ mostRecords)
     host-fits = let w = decided-puts b q ps eo ed ee el in (w .0, omega (arith, w .0, el, room), omega (arith, w .0, el, room))
 

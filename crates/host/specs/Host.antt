@@ -3,14 +3,15 @@ use Prim.Native.Nat.{ℕ, _+_, _*_, _/_, _%_}
 use mathlib.Core.List.{List, [], _∷_}
 use lib.ListN.{length}
 use Rattle.record.specs.Refusals.{refusalNumber}
-use Rattle.meaning.specs.Numbers.{numberOf}
+use Rattle.meaning.specs.Meaning.{decisionIn}
+use Rattle.meaning.specs.Numbers.{numberOf, codeNumber}
 use Rattle.decider.specs.Outcome.{dutiesOf, outcomeOf, filled}
 use Rattle.decider.specs.declared.Outcome.{Outcome}
 use Rattle.decider.specs.declared.Outcome.the-variants.{Decided, Refused}
 
--- decision + 256 x count, or a refusal as one number
+-- decision + 256 x count + 2^40 x code, or a refusal as one number
 abbrev pub hostNumber : Outcome → ℕ
-hostNumber (Decided d n) = numberOf d + 256 * n
+hostNumber (Decided v n) = numberOf (decisionIn v) + 256 * n + 1099511627776 * codeNumber v
 hostNumber (Refused r) = refusalNumber r
 
 -- obligations as byte pairs, big-endian

@@ -1,6 +1,6 @@
 // The call for a C host.
 use decider::Outcome;
-use meaning::Decision;
+use meaning::Verdict;
 ghost use mathlib.Core.Path.{_≡_};
 ghost use mathlib.Core.List.{_++_};
 ghost use Prim.Native.Nat.{_*_, _-_, _/_, _≤_, min};
@@ -53,11 +53,12 @@ fn clear(out: &mut [u8], n: usize)
     }
 }
 
-fn decided(d: Decision, n: usize) -> u64
+fn decided(v: Verdict, n: usize) -> u64
     requires { ⌜ n ≤ mostRecords ⌝ }
-    ensures { λ r. ⌜ r ≡ hostNumber (Decided d n) ⌝ }
+    ensures { λ r. ⌜ r ≡ hostNumber (Decided v n) ⌝ }
 {
-    meaning::number(d) as u64 + 256 * n as u64
+    let number = meaning::number(meaning::decision_in(v)) as u64;
+    number + 256 * n as u64 + 1099511627776 * meaning::code(v) as u64
 }
 
 // Decides in these places: one for each pair of bytes of out, or as many as any book needs.
@@ -68,10 +69,10 @@ fn decide_in(book: &[u8], request: &[u8], places: &mut [u16], out: &mut [u8]) ->
 {
     match decider::decide(book, request, places) {
         Outcome::Refused(r) => record::refusal_number(r),
-        Outcome::Decided(d, n) => {
+        Outcome::Decided(v, n) => {
             put_pairs(places, n, out);
             clear(out, n * 2);
-            decided(d, n)
+            decided(v, n)
         }
     }
 }

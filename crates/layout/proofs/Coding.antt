@@ -13,12 +13,18 @@ use Rattle.value.specs.declared.Function.{Function}
 use Rattle.value.specs.declared.Function.the-variants.{Equal, Greater, GreaterOrEqual, Less, LessOrEqual}
 use Rattle.sums.specs.declared.Operator.{Operator}
 use Rattle.sums.specs.declared.Operator.the-variants.{Add, Subtract, Multiply, Divide, Remainder, DoubleAdd}
+use Rattle.sums.specs.declared.Status.{Status}
+use Rattle.sums.specs.declared.Status.the-variants.{Missing, Processing}
 use Rattle.meaning.specs.declared.Truth.{Truth}
 use Rattle.meaning.specs.declared.Truth.the-variants.{True, False, Unknown}
 use Rattle.meaning.specs.declared.Effect.{Effect}
 use Rattle.meaning.specs.declared.Effect.the-variants.{Permits, Denies}
 use Rattle.meaning.specs.declared.Decision.{Decision}
 use Rattle.meaning.specs.declared.Decision.the-variants.{Permit, Deny, NotApplicable, Indeterminate}
+use Rattle.meaning.specs.declared.Cause.{Cause}
+use Rattle.meaning.specs.declared.Cause.the-variants.{NoCause, By}
+use Rattle.meaning.specs.declared.Verdict.{Verdict}
+use Rattle.meaning.specs.declared.Verdict.the-variants as verdict
 use Rattle.meaning.specs.declared.Algorithm.{Algorithm}
 use Rattle.meaning.specs.declared.Algorithm.the-variants.{RulesDeny, RulesPermit, First, PoliciesDeny, PoliciesPermit, OnlyOne}
 use Rattle.algorithm.specs.declared.Rank.the-variants.{R0, R1, R2, R3, R4}
@@ -29,7 +35,7 @@ use Rattle.layout.specs.declared.Op.the-variants.{All, Any, Not}
 use Rattle.layout.specs.declared.Level.{Level}
 use Rattle.layout.specs.declared.Frame.{Frame}
 use Rattle.layout.specs.declared.Head.{Head}
-use Rattle.layout.specs.Layout.{bitOf, truthCode, truthBy, decisionCode, decisionBy, effectCode, effectBy, opCode, opBy, algorithmCode, algorithmBy, functionCode, operatorCode, operatorBy, rankBy, accCode, accBy, levelOf, levelWord, frameOf, frameWord, unpackOf, packOf, allowed}
+use Rattle.layout.specs.Layout.{bitOf, statusCode, truthCode, truthBy, causeCode, causeBy, decisionCode, decisionBy, verdictCode, verdictBy, effectCode, effectBy, opCode, opBy, algorithmCode, algorithmBy, functionCode, operatorCode, operatorBy, rankBy, accCode, accBy, levelOf, levelWord, frameOf, frameWord, unpackOf, packOf, allowed}
 use Rattle.layout.specs.Ranges.{Held, Ranged}
 use Rattle.layout.specs.Room.{roomP}
 
@@ -38,21 +44,43 @@ pub truth-back : (t : Truth) → truthBy (truthCode t) ≡ t
 unfolding truthBy
 truth-back True = refl
 truth-back False = refl
-truth-back Unknown = refl
+truth-back (Unknown Missing) = refl
+truth-back (Unknown Processing) = refl
 
-pub truth-small : (t : Truth) → truthCode t ≤ 2
+status-small : (s : Status) → statusCode s ≤ 1
+status-small Missing = omega arith
+status-small Processing = omega arith
+
+pub truth-small : (t : Truth) → truthCode t ≤ 3
 truth-small True = omega arith
 truth-small False = omega arith
-truth-small Unknown = omega arith
+truth-small (Unknown s) = omega (arith, status-small s)
 
-pub decision-back : (d : Decision) → decisionBy (decisionCode d) ≡ d
-unfolding decisionBy
-decision-back Permit = refl
-decision-back Deny = refl
-decision-back NotApplicable = refl
-decision-back Indeterminate = refl
+cause-back : (c : Cause) → causeBy (causeCode c) ≡ c
+unfolding causeBy
+cause-back NoCause = refl
+cause-back (By Missing) = refl
+cause-back (By Processing) = refl
 
-pub decision-small : (d : Decision) → decisionCode d ≤ 3
+cause-small : (c : Cause) → causeCode c ≤ 2
+cause-small NoCause = omega arith
+cause-small (By s) = omega (arith, status-small s)
+
+verdict-back : (v : Verdict) → verdictBy (verdictCode v) ≡ v
+unfolding verdictBy
+verdict-back verdict.Permit = refl
+verdict-back verdict.Deny = refl
+verdict-back verdict.NotApplicable = refl
+verdict-back (verdict.Indeterminate Missing) = refl
+verdict-back (verdict.Indeterminate Processing) = refl
+
+verdict-small : (v : Verdict) → verdictCode v ≤ 4
+verdict-small verdict.Permit = omega arith
+verdict-small verdict.Deny = omega arith
+verdict-small verdict.NotApplicable = omega arith
+verdict-small (verdict.Indeterminate s) = omega (arith, status-small s)
+
+decision-small : (d : Decision) → decisionCode d ≤ 3
 decision-small Permit = omega arith
 decision-small Deny = omega arith
 decision-small NotApplicable = omega arith
@@ -177,17 +205,20 @@ level-back l =
 pub frame-back : (f : Frame) → f .permits < 1024 → f .denies < 1024 → frameOf (frameWord f) ≡ f
 unfolding frameOf frameWord
 frame-back f p d =
+    let k = f .tally in
     let a = algorithm-small (f .alg) in
-    let b = acc-small (f .acc) in
-    let n : ℕ = algorithmCode (f .alg) + 8 * (accCode (f .acc) + 16 * (f .permits + 1024 * f .denies)) in
+    let b = acc-small (k .acc) in
+    let c = cause-small (k .cause) in
+    let n : ℕ = algorithmCode (f .alg) + 8 * (accCode (k .acc) + 16 * (f .permits + 1024 * (f .denies + 1024 * causeCode (k .cause)))) in
     let alg : n % 8 ≡ algorithmCode (f .alg) = remainder 8 n (algorithmCode (f .alg)) _ refl (omega arith) in
-    let acc : n / 8 % 16 ≡ accCode (f .acc) =
-    digit 8 16 n (algorithmCode (f .alg)) (accCode (f .acc)) (f .permits + 1024 * f .denies) refl (omega arith) (omega arith) in
+    let acc : n / 8 % 16 ≡ accCode (k .acc) = digit 8 16 n (algorithmCode (f .alg)) (accCode (k .acc)) _ refl (omega arith) (omega arith) in
     let permits : n / 128 % 1024 ≡ f .permits =
-    digit 128 1024 n (algorithmCode (f .alg) + 8 * accCode (f .acc)) (f .permits) (f .denies) (omega arith) (omega arith) p in
+    digit 128 1024 n (algorithmCode (f .alg) + 8 * accCode (k .acc)) (f .permits) (f .denies + 1024 * causeCode (k .cause)) (omega arith) (omega arith) p in
     let denies : n / 131072 % 1024 ≡ f .denies =
-    digit 131072 1024 n (algorithmCode (f .alg) + 8 * (accCode (f .acc) + 16 * f .permits)) (f .denies) 0 (omega arith) (omega arith) d in
-    rw (alg, acc, permits, denies, algorithm-back, acc-back)
+    digit 131072 1024 n (algorithmCode (f .alg) + 8 * (accCode (k .acc) + 16 * f .permits)) (f .denies) (causeCode (k .cause)) (omega arith) (omega arith) d in
+    let cause : n / 134217728 % 4 ≡ causeCode (k .cause) =
+    digit 134217728 4 n (algorithmCode (f .alg) + 8 * (accCode (k .acc) + 16 * (f .permits + 1024 * f .denies))) (causeCode (k .cause)) 0 (omega arith) (omega arith) (omega arith) in
+    rw (alg, acc, permits, denies, cause, algorithm-back, acc-back, cause-back)
 
 -- the first number: its words, and what stands below them
 module _ (h : Head) where
@@ -201,7 +232,7 @@ module _ (h : Head) where
   first = truthCode (h .ands) + 4 * second
 
   words : ℕ
-  words = decisionCode (h .reg) + 4 * first
+  words = verdictCode (h .reg) + 8 * first
 
   stacks : ℕ
   stacks = h .permits + 1024 * (h .denies + 1024 * h .cut)
@@ -210,10 +241,10 @@ module _ (h : Head) where
   low = h .at + 8192 * (h .depth + 32 * (h .nest + 16 * stacks))
 
 module _ (h : Head) (s : Held h) where
-  words-small : words h < 512
+  words-small : words h < 1024
   unfolding words first second third
   words-small =
-      omega (arith, decision-small (h .reg), truth-small (h .ands), truth-small (h .ors), truth-small (h .sections), bit-small (h .over))
+      omega (arith, verdict-small (h .reg), truth-small (h .ands), truth-small (h .ors), truth-small (h .sections), bit-small (h .over))
 
   low-small : low h < 4503599627370496
   unfolding low stacks
@@ -223,7 +254,7 @@ module _ (h : Head) (s : Held h) where
   unfolding packOf low stacks words first second third
   parts = omega arith
 
-  pub pack-small : packOf h < 2305843009213693952
+  pub pack-small : packOf h < 4611686018427387904
   pack-small = omega (arith, parts, words-small, low-small)
 
   at-back : packOf h % 8192 ≡ h .at
@@ -258,39 +289,39 @@ module _ (h : Head) (s : Held h) where
       digit 4398046511104 1024 (packOf h) (h .at + 8192 * (h .depth + 32 * (h .nest + 16 * (h .permits + 1024 * h .denies)))) (h .cut) (words h)
       (omega (arith, parts)) (omega arith) (s .cut)
 
-  reg-back : packOf h / 4503599627370496 % 4 ≡ decisionCode (h .reg)
+  reg-back : packOf h / 4503599627370496 % 8 ≡ verdictCode (h .reg)
   unfolding words
   reg-back =
-      digit 4503599627370496 4 (packOf h) (low h) (decisionCode (h .reg)) (first h) parts low-small (omega (arith, decision-small (h .reg)))
+      digit 4503599627370496 8 (packOf h) (low h) (verdictCode (h .reg)) (first h) parts low-small (omega (arith, verdict-small (h .reg)))
 
-  ands-back : packOf h / 18014398509481984 % 4 ≡ truthCode (h .ands)
+  ands-back : packOf h / 36028797018963968 % 4 ≡ truthCode (h .ands)
   unfolding words first
   ands-back =
-      digit 18014398509481984 4 (packOf h) (low h + 4503599627370496 * decisionCode (h .reg)) (truthCode (h .ands)) (second h)
-      (omega (arith, parts)) (omega (arith, low-small, decision-small (h .reg))) (omega (arith, truth-small (h .ands)))
+      digit 36028797018963968 4 (packOf h) (low h + 4503599627370496 * verdictCode (h .reg)) (truthCode (h .ands)) (second h)
+      (omega (arith, parts)) (omega (arith, low-small, verdict-small (h .reg))) (omega (arith, truth-small (h .ands)))
 
-  ors-back : packOf h / 72057594037927936 % 4 ≡ truthCode (h .ors)
+  ors-back : packOf h / 144115188075855872 % 4 ≡ truthCode (h .ors)
   unfolding words first second
   ors-back =
-      digit 72057594037927936 4 (packOf h) (low h + 4503599627370496 * (decisionCode (h .reg) + 4 * truthCode (h .ands))) (truthCode (h .ors)) (third h)
-      (omega (arith, parts)) (omega (arith, low-small, decision-small (h .reg), truth-small (h .ands))) (omega (arith, truth-small (h .ors)))
+      digit 144115188075855872 4 (packOf h) (low h + 4503599627370496 * (verdictCode (h .reg) + 8 * truthCode (h .ands))) (truthCode (h .ors)) (third h)
+      (omega (arith, parts)) (omega (arith, low-small, verdict-small (h .reg), truth-small (h .ands))) (omega (arith, truth-small (h .ors)))
 
-  sections-back : packOf h / 288230376151711744 % 4 ≡ truthCode (h .sections)
+  sections-back : packOf h / 576460752303423488 % 4 ≡ truthCode (h .sections)
   unfolding words first second third
   sections-back =
-      digit 288230376151711744 4 (packOf h)
-      (low h + 4503599627370496 * (decisionCode (h .reg) + 4 * (truthCode (h .ands) + 4 * truthCode (h .ors)))) (truthCode (h .sections)) (bitOf (h .over))
-      (omega (arith, parts)) (omega (arith, low-small, decision-small (h .reg), truth-small (h .ands), truth-small (h .ors)))
+      digit 576460752303423488 4 (packOf h)
+      (low h + 4503599627370496 * (verdictCode (h .reg) + 8 * (truthCode (h .ands) + 4 * truthCode (h .ors)))) (truthCode (h .sections)) (bitOf (h .over))
+      (omega (arith, parts)) (omega (arith, low-small, verdict-small (h .reg), truth-small (h .ands), truth-small (h .ors)))
       (omega (arith, truth-small (h .sections)))
 
-  over-back : packOf h / 1152921504606846976 % 2 ≡ bitOf (h .over)
+  over-back : packOf h / 2305843009213693952 % 2 ≡ bitOf (h .over)
   unfolding words first second third
   over-back =
-      digit 1152921504606846976 2 (packOf h)
-      (low h + 4503599627370496 * (decisionCode (h .reg) + 4 * (truthCode (h .ands) + 4 * (truthCode (h .ors) + 4 * truthCode (h .sections)))))
+      digit 2305843009213693952 2 (packOf h)
+      (low h + 4503599627370496 * (verdictCode (h .reg) + 8 * (truthCode (h .ands) + 4 * (truthCode (h .ors) + 4 * truthCode (h .sections)))))
       (bitOf (h .over)) 0
       (omega (arith, parts))
-      (omega (arith, low-small, decision-small (h .reg), truth-small (h .ands), truth-small (h .ors), truth-small (h .sections)))
+      (omega (arith, low-small, verdict-small (h .reg), truth-small (h .ands), truth-small (h .ors), truth-small (h .sections)))
       (omega (arith, bit-small (h .over)))
 
   -- a first number whose fields fit comes back
@@ -309,7 +340,7 @@ module _ (h : Head) (s : Held h) where
         ors-back,
         sections-back,
         over-back,
-        decision-back (h .reg),
+        verdict-back (h .reg),
         truth-back (h .ands),
         truth-back (h .ors),
         truth-back (h .sections),
@@ -348,7 +379,7 @@ ranged n e =
     let c : Bool = leb (unpackOf n .nest) 14 in
     let p : Bool = leb (unpackOf n .permits) roomP in
     let s : Bool = leb (unpackOf n .cut + unpackOf n .denies) roomP in
-    let f = both-right (ltb n 2305843009213693952) (both d (both c (both p s))) e in
+    let f = both-right (ltb n 4611686018427387904) (both d (both c (both p s))) e in
     let g = both-right d (both c (both p s)) f in
     let h = both-right c (both p s) g in
     record {

@@ -10,6 +10,8 @@ use Rattle.value.specs.declared.Function.{Function}
 use Rattle.value.specs.declared.Function.the-variants.{Equal, Greater, GreaterOrEqual, Less, LessOrEqual}
 use Rattle.sums.specs.declared.Operator.{Operator}
 use Rattle.sums.specs.declared.Operator.the-variants.{Add, Subtract, Multiply, Divide, Remainder, DoubleAdd}
+use Rattle.sums.specs.declared.Status.{Status}
+use Rattle.sums.specs.declared.Status.the-variants.{Missing, Processing}
 use Rattle.meaning.specs.declared.Test.{Test}
 use Rattle.meaning.specs.declared.Truth.{Truth}
 use Rattle.meaning.specs.declared.Truth.the-variants.{True, False, Unknown}
@@ -17,6 +19,10 @@ use Rattle.meaning.specs.declared.Effect.{Effect}
 use Rattle.meaning.specs.declared.Effect.the-variants.{Permits, Denies}
 use Rattle.meaning.specs.declared.Decision.{Decision}
 use Rattle.meaning.specs.declared.Decision.the-variants.{Permit, Deny, NotApplicable, Indeterminate}
+use Rattle.meaning.specs.declared.Cause.{Cause}
+use Rattle.meaning.specs.declared.Cause.the-variants.{NoCause, By}
+use Rattle.meaning.specs.declared.Verdict.{Verdict}
+use Rattle.meaning.specs.declared.Verdict.the-variants as verdict
 use Rattle.meaning.specs.declared.Algorithm.{Algorithm}
 use Rattle.meaning.specs.declared.Algorithm.the-variants.{RulesDeny, RulesPermit, First, PoliciesDeny, PoliciesPermit, OnlyOne}
 use Rattle.algorithm.specs.declared.Rank.{Rank}
@@ -36,13 +42,24 @@ abbrev pub bitOf : Bool → ℕ
 bitOf false = 0
 bitOf true = 1
 
+abbrev pub statusCode : Status → ℕ
+statusCode Missing = 0
+statusCode Processing = 1
+
 abbrev pub truthCode : Truth → ℕ
 truthCode True = 0
 truthCode False = 1
-truthCode Unknown = 2
+truthCode (Unknown s) = 2 + statusCode s
 
 unfoldable pub truthBy : ℕ → Truth
-truthBy n = if (eqb n 0) True (if (eqb n 1) False Unknown)
+truthBy n = if (eqb n 0) True (if (eqb n 1) False (if (eqb n 2) (Unknown Missing) (Unknown Processing)))
+
+abbrev pub causeCode : Cause → ℕ
+causeCode NoCause = 0
+causeCode (By s) = 1 + statusCode s
+
+unfoldable pub causeBy : ℕ → Cause
+causeBy n = if (eqb n 0) NoCause (if (eqb n 1) (By Missing) (By Processing))
 
 abbrev pub decisionCode : Decision → ℕ
 decisionCode Permit = 0
@@ -52,6 +69,19 @@ decisionCode Indeterminate = 3
 
 unfoldable pub decisionBy : ℕ → Decision
 decisionBy n = if (eqb n 0) Permit (if (eqb n 1) Deny (if (eqb n 2) NotApplicable Indeterminate))
+
+abbrev pub verdictCode : Verdict → ℕ
+verdictCode verdict.Permit = 0
+verdictCode verdict.Deny = 1
+verdictCode verdict.NotApplicable = 2
+verdictCode (verdict.Indeterminate s) = 3 + statusCode s
+
+unfoldable pub verdictBy : ℕ → Verdict
+verdictBy n =
+    if (eqb n 0) verdict.Permit
+    (if (eqb n 1) verdict.Deny
+    (if (eqb n 2) verdict.NotApplicable
+    (if (eqb n 3) (verdict.Indeterminate Missing) (verdict.Indeterminate Processing))))
 
 abbrev pub effectCode : Effect → ℕ
 effectCode Permits = 0
@@ -131,15 +161,20 @@ levelOf n = record { op = opBy (n % 4); val = truthBy (n / 4 % 4) }
 unfoldable pub levelWord : Level → ℕ
 levelWord l = opCode (l .op) + 4 * truthCode (l .val)
 
--- a frame: 3 bits algorithm, 4 bits what it keeps, 10 bits each height
+-- a frame: 3 bits algorithm, 4 bits what it keeps, 10 bits each height, 2 bits the cause that counts
 unfoldable pub frameOf : ℕ → Frame
-frameOf n = record { alg = algorithmBy (n % 8); acc = accBy (n / 8 % 16); permits = n / 128 % 1024; denies = n / 131072 % 1024 }
+frameOf n = record {
+  alg = algorithmBy (n % 8);
+  tally = record { acc = accBy (n / 8 % 16); cause = causeBy (n / 134217728 % 4) };
+  permits = n / 128 % 1024;
+  denies = n / 131072 % 1024;
+}
 
 unfoldable pub frameWord : Frame → ℕ
-frameWord f = algorithmCode (f .alg) + 8 * (accCode (f .acc) + 16 * (f .permits + 1024 * f .denies))
+frameWord f = algorithmCode (f .alg) + 8 * (accCode (f .tally .acc) + 16 * (f .permits + 1024 * (f .denies + 1024 * causeCode (f .tally .cause))))
 
 -- the first number: 13 bits the place in the programme, 5 open policies and sets, 4 open conditions, 10 each the heights of Permit's and Deny's
--- obligations and the cut, 2 the register, 2 each the conjunction, the section and the target so far, 1 whether the run is over
+-- obligations and the cut, 3 the register, 2 each the conjunction, the section and the target so far, 1 whether the run is over
 unfoldable pub unpackOf : ℕ → Head
 unpackOf n = record {
   at = n % 8192;
@@ -148,11 +183,11 @@ unpackOf n = record {
   permits = n / 4194304 % 1024;
   denies = n / 4294967296 % 1024;
   cut = n / 4398046511104 % 1024;
-  reg = decisionBy (n / 4503599627370496 % 4);
-  ands = truthBy (n / 18014398509481984 % 4);
-  ors = truthBy (n / 72057594037927936 % 4);
-  sections = truthBy (n / 288230376151711744 % 4);
-  over = eqb (n / 1152921504606846976 % 2) 1;
+  reg = verdictBy (n / 4503599627370496 % 8);
+  ands = truthBy (n / 36028797018963968 % 4);
+  ors = truthBy (n / 144115188075855872 % 4);
+  sections = truthBy (n / 576460752303423488 % 4);
+  over = eqb (n / 2305843009213693952 % 2) 1;
 }
 
 unfoldable pub packOf : Head → ℕ
@@ -163,8 +198,8 @@ packOf h =
     + 16 * (h .permits
     + 1024 * (h .denies
     + 1024 * (h .cut
-    + 1024 * (decisionCode (h .reg)
-    + 4 * (truthCode (h .ands)
+    + 1024 * (verdictCode (h .reg)
+    + 8 * (truthCode (h .ands)
     + 4 * (truthCode (h .ors)
     + 4 * (truthCode (h .sections)
     + 4 * bitOf (h .over))))))))))
@@ -172,7 +207,7 @@ packOf h =
 -- what the layout allows of the first number: at most 16 policies and sets and 14 conditions open, and the stacks within the 1,000 places
 unfoldable pub allowed : ℕ → Bool
 allowed n =
-    both (ltb n 2305843009213693952)
+    both (ltb n 4611686018427387904)
     (both (leb (unpackOf n .depth) 16)
     (both (leb (unpackOf n .nest) 14)
     (both (leb (unpackOf n .permits) roomP)

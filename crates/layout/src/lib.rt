@@ -1,14 +1,18 @@
 // The layout of a programme's state in numbers: small words by number and back; levels, frames and the first number as they stand in 64 bits.
 use algorithm::Acc;
 use algorithm::Rank;
+use algorithm::tally::Tally;
 use meaning::Algorithm;
+use meaning::Cause;
 use meaning::Decision;
 use meaning::Effect;
 use meaning::Truth;
+use meaning::Verdict;
 use sums::Operator;
+use sums::Status;
 ghost use mathlib.Core.Path.{_≡_};
 ghost use Prim.Native.Nat.{_<_, _≤_};
-ghost use Rattle.layout.specs.Layout.{bitOf, truthCode, truthBy, decisionCode, decisionBy, effectBy, opCode, opBy, algorithmCode, algorithmBy, operatorBy, rankCode, rankBy, accCode, accBy, levelOf, levelWord, frameOf, frameWord, unpackOf, packOf};
+ghost use Rattle.layout.specs.Layout.{bitOf, statusCode, truthCode, truthBy, causeCode, causeBy, decisionCode, decisionBy, verdictCode, verdictBy, effectBy, opCode, opBy, algorithmCode, algorithmBy, operatorBy, rankCode, rankBy, accCode, accBy, levelOf, levelWord, frameOf, frameWord, unpackOf, packOf};
 ghost use Rattle.layout.specs.Ranges.{Held};
 
 // What a condition that is open does with its parts.
@@ -24,10 +28,10 @@ pub struct Level {
     pub val: Truth,
 }
 
-// A policy or set that is open: its algorithm, what that keeps, and how many obligations of each effect stood when it was opened.
+// A policy or set that is open: its algorithm, what that keeps of its children, and how many obligations of each effect stood when it was opened.
 pub struct Frame {
     pub alg: Algorithm,
-    pub acc: Acc,
+    pub tally: Tally,
     pub permits: u64,
     pub denies: u64,
 }
@@ -40,7 +44,7 @@ pub struct Head {
     pub permits: u64,
     pub denies: u64,
     pub cut: u64,
-    pub reg: Decision,
+    pub reg: Verdict,
     pub ands: Truth,
     pub ors: Truth,
     pub sections: Truth,
@@ -63,13 +67,22 @@ pub fn bit(b: bool) -> u64
     if b { 1 } else { 0 }
 }
 
+fn status_code(s: Status) -> u64
+    ensures { λ r. ⌜ (r ≡ statusCode s) × (r ≤ 1) ⌝ }
+{
+    match s {
+        Status::Missing => 0,
+        Status::Processing => 1,
+    }
+}
+
 fn truth_code(t: Truth) -> u64
-    ensures { λ r. ⌜ (r ≡ truthCode t) × (r ≤ 2) ⌝ }
+    ensures { λ r. ⌜ (r ≡ truthCode t) × (r ≤ 3) ⌝ }
 {
     match t {
         Truth::True => 0,
         Truth::False => 1,
-        Truth::Unknown => 2,
+        Truth::Unknown(s) => 2 + status_code(s),
     }
 }
 
@@ -79,7 +92,27 @@ fn truth_by(n: u64) -> Truth
     match n {
         0 => Truth::True,
         1 => Truth::False,
-        _ => Truth::Unknown,
+        2 => Truth::Unknown(Status::Missing),
+        _ => Truth::Unknown(Status::Processing),
+    }
+}
+
+fn cause_code(c: Cause) -> u64
+    ensures { λ r. ⌜ (r ≡ causeCode c) × (r ≤ 2) ⌝ }
+{
+    match c {
+        Cause::NoCause => 0,
+        Cause::By(s) => 1 + status_code(s),
+    }
+}
+
+fn cause_by(n: u64) -> Cause
+    ensures { λ r. ⌜ r ≡ causeBy n ⌝ }
+{
+    match n {
+        0 => Cause::NoCause,
+        1 => Cause::By(Status::Missing),
+        _ => Cause::By(Status::Processing),
     }
 }
 
@@ -102,6 +135,29 @@ fn decision_by(n: u64) -> Decision
         1 => Decision::Deny,
         2 => Decision::NotApplicable,
         _ => Decision::Indeterminate,
+    }
+}
+
+fn verdict_code(v: Verdict) -> u64
+    ensures { λ r. ⌜ (r ≡ verdictCode v) × (r ≤ 4) ⌝ }
+{
+    match v {
+        Verdict::Permit => 0,
+        Verdict::Deny => 1,
+        Verdict::NotApplicable => 2,
+        Verdict::Indeterminate(s) => 3 + status_code(s),
+    }
+}
+
+fn verdict_by(n: u64) -> Verdict
+    ensures { λ r. ⌜ r ≡ verdictBy n ⌝ }
+{
+    match n {
+        0 => Verdict::Permit,
+        1 => Verdict::Deny,
+        2 => Verdict::NotApplicable,
+        3 => Verdict::Indeterminate(Status::Missing),
+        _ => Verdict::Indeterminate(Status::Processing),
     }
 }
 
@@ -246,7 +302,10 @@ pub fn frame_of(n: u64) -> Frame
 {
     Frame {
         alg: algorithm_by(n % 8),
-        acc: acc_by(n / 8 % 16),
+        tally: Tally {
+            acc: acc_by(n / 8 % 16),
+            cause: cause_by(n / 134217728 % 4),
+        },
         permits: n / 128 % 1024,
         denies: n / 131072 % 1024,
     }
@@ -257,8 +316,11 @@ pub fn frame_word(f: Frame) -> u64
     ensures { λ r. ⌜ r ≡ frameWord f ⌝ }
 {
     let alg = f.alg;
-    let acc = f.acc;
-    algorithm_code(alg) + 8 * (acc_code(acc) + 16 * (f.permits + 1024 * f.denies))
+    let k = f.tally;
+    let acc = k.acc;
+    let cause = k.cause;
+    let heights = f.permits + 1024 * (f.denies + 1024 * cause_code(cause));
+    algorithm_code(alg) + 8 * (acc_code(acc) + 16 * heights)
 }
 
 pub fn unpack(n: u64) -> Head
@@ -271,11 +333,11 @@ pub fn unpack(n: u64) -> Head
         permits: n / 4194304 % 1024,
         denies: n / 4294967296 % 1024,
         cut: n / 4398046511104 % 1024,
-        reg: decision_by(n / 4503599627370496 % 4),
-        ands: truth_by(n / 18014398509481984 % 4),
-        ors: truth_by(n / 72057594037927936 % 4),
-        sections: truth_by(n / 288230376151711744 % 4),
-        over: n / 1152921504606846976 % 2 == 1,
+        reg: verdict_by(n / 4503599627370496 % 8),
+        ands: truth_by(n / 36028797018963968 % 4),
+        ors: truth_by(n / 144115188075855872 % 4),
+        sections: truth_by(n / 576460752303423488 % 4),
+        over: n / 2305843009213693952 % 2 == 1,
     }
 }
 
@@ -290,7 +352,7 @@ pub fn pack(h: Head) -> u64
     let third = truth_code(sections) + 4 * bit(h.over);
     let second = truth_code(ors) + 4 * third;
     let first = truth_code(ands) + 4 * second;
-    let words = decision_code(reg) + 4 * first;
+    let words = verdict_code(reg) + 8 * first;
     let stacks = h.permits + 1024 * (h.denies + 1024 * (h.cut + 1024 * words));
     h.at + 8192 * (h.depth + 32 * (h.nest + 16 * stacks))
 }

@@ -9,9 +9,10 @@ use Rattle.value.specs.Value.{signed64, valueOf}
 use Rattle.value.specs.declared.Value.{Value}
 use Rattle.value.specs.declared.Value.the-variants.{Integer}
 use Rattle.value.specs.declared.Function.the-variants.{Greater}
-use Rattle.sums.specs.Sums.{resultOf}
+use Rattle.sums.specs.Sums.{failed, resultOf}
 use Rattle.sums.specs.declared.Operator.the-variants.{Add, Subtract, Multiply, Divide, Remainder}
-use Rattle.sums.specs.declared.Worth.the-variants.{Is, Lost}
+use Rattle.sums.specs.declared.Status.the-variants.{Missing, Processing}
+use Rattle.sums.specs.declared.Worth.the-variants.{Is}
 use Rattle.meaning.specs.Numbers.{keyBy}
 use Rattle.meaning.specs.Policy.{literal, attribute, operate, Condition, weighs}
 use Rattle.meaning.specs.Meaning.{Bags, worth, conditionOf}
@@ -24,22 +25,22 @@ least = Integer (negsuc (2 ^ 63 - 1))
 abbrev most : Value
 most = Integer (pos (2 ^ 63 - 1))
 
-too-large : resultOf Add most (Integer (pos 1)) ≡ Lost
+too-large : resultOf Add most (Integer (pos 1)) ≡ failed
 too-large = refl
 
-too-small : resultOf Subtract least (Integer (pos 1)) ≡ Lost
+too-small : resultOf Subtract least (Integer (pos 1)) ≡ failed
 too-small = refl
 
-product-too-large : resultOf Multiply least (Integer (negsuc 0)) ≡ Lost
+product-too-large : resultOf Multiply least (Integer (negsuc 0)) ≡ failed
 product-too-large = refl
 
-quotient-too-large : resultOf Divide least (Integer (negsuc 0)) ≡ Lost
+quotient-too-large : resultOf Divide least (Integer (negsuc 0)) ≡ failed
 quotient-too-large = refl
 
 remainder-by-minus-one : resultOf Remainder least (Integer (negsuc 0)) ≡ Is (Integer (pos 0))
 remainder-by-minus-one = refl
 
-by-zero : resultOf Divide most (Integer (pos 0)) ≡ Lost
+by-zero : resultOf Divide most (Integer (pos 0)) ≡ failed
 by-zero = refl
 
 -- -7 / 2 is -3, and -1 is left
@@ -64,14 +65,14 @@ low : conditionOf (given (Integer (pos 35) ∷ [])) passes ≡ False
 unfolding conditionOf worth passes given keyBy valueOf signed64
 low = refl
 
-none : conditionOf (given []) passes ≡ Unknown
+none : conditionOf (given []) passes ≡ Unknown Missing
 unfolding conditionOf worth passes given keyBy valueOf signed64
 none = refl
 
-two : conditionOf (given (Integer (pos 40) ∷ Integer (pos 40) ∷ [])) passes ≡ Unknown
+two : conditionOf (given (Integer (pos 40) ∷ Integer (pos 40) ∷ [])) passes ≡ Unknown Processing
 unfolding conditionOf worth passes given keyBy valueOf signed64
 two = refl
 
-failed : conditionOf (given (most ∷ [])) passes ≡ Unknown
+fails : conditionOf (given (most ∷ [])) passes ≡ Unknown Processing
 unfolding conditionOf worth passes given keyBy valueOf signed64
-failed = refl
+fails = refl

@@ -4,3 +4,7 @@ pub mod Cases
 pub mod Typed
 pub mod Alike
 pub mod Examples
+pub mod Forgets
+pub mod Seen
+pub mod Codes
+pub mod Small

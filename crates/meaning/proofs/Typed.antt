@@ -50,23 +50,23 @@ requests-are-fair q h key = from-fair q h key (length q / size) 0
 -- worths
 Made : ℕ → Worth → Type 0
 Made k (Is v) = Of k v
-Made k Lost = Unit
+Made k (Lost s) = Unit
 
 plain : (o : Operator) (x y : Worth) → Made (kindOf o) x → Made (kindOf o) y → operated o x y ≡ operatedPlain o x y
 unfolding Made
-plain o Lost y p q = refl
-plain o (Is x) Lost p q = refl
+plain o (Lost s) y p q = refl
+plain o (Is x) (Lost s) p q = refl
 plain o (Is x) (Is y) p q = rw (as-it-is (kindOf o) x p, as-it-is (kindOf o) y q) refl
 
 made-plain : (o : Operator) (x y : Worth) → Made (kindOf o) x → Made (kindOf o) y → Made (kindOf o) (operatedPlain o x y)
 unfolding Made
-made-plain o Lost y p q = tt
-made-plain o (Is x) Lost p q = tt
+made-plain o (Lost s) y p q = tt
+made-plain o (Is x) (Lost s) p q = tt
 made-plain o (Is x) (Is y) p q = go (resultOf o x y) refl
   where
     go : (w : Worth) → resultOf o x y ≡ w → Made (kindOf o) w
     go (Is v) e = result-of-kind o x y v p q e
-    go Lost e = tt
+    go (Lost s) e = tt
 
 made-only : (k : ℕ) (vs : List Value) → All k vs → Made k (theOnly vs)
 unfolding Made All
@@ -95,8 +95,8 @@ operates-plainly g h o a b t =
 
 weigh-plain : (f : Function) (k : ℕ) (x y : Worth) → Made k x → Made k y → weighed f k x y ≡ weighedPlain f x y
 unfolding Made
-weigh-plain f k Lost y p q = refl
-weigh-plain f k (Is x) Lost p q = refl
+weigh-plain f k (Lost s) y p q = refl
+weigh-plain f k (Is x) (Lost s) p q = refl
 weigh-plain f k (Is x) (Is y) p q = rw (as-it-is k x p, as-it-is k y q) refl
 
 pub weighs-plainly : WeighsPlainly
@@ -109,7 +109,7 @@ pub compares-as-weighed : ComparesAsWeighed
 unfolding conditionOf worth comparisonOf gives All
 compares-as-weighed g h t l = go (g (keyOf t)) (h (keyOf t))
   where
-    go : (vs : List Value) → All (keyOf t .type) vs → comparisonIn t vs ≡ weighed (t .function) (keyOf t .type) (Is (literalOf t)) (theOnly vs)
+    go : (vs : List Value) → All (keyOf t .type) vs → comparisonIn t (theOnly vs) ≡ weighed (t .function) (keyOf t .type) (Is (literalOf t)) (theOnly vs)
     go [] a = refl
     go (v ∷ []) a =
         rw (as-it-is (keyOf t .type) (literalOf t) (record { bytes = t .literal; short = l; stands = refl }), as-it-is (keyOf t .type) v (a .0)) refl

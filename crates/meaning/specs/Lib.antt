@@ -6,3 +6,4 @@ pub mod Reading
 pub mod Keys
 pub mod Typed
 pub mod Alike
+pub mod Codes

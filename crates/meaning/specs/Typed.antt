@@ -75,13 +75,13 @@ WorthIsTyped = (g : Bags) → Fair g → (e : Expr) → Typed e → (v : Value) 
 
 -- the operator of the operands' values themselves, the function of the two values themselves
 abbrev pub operatedPlain : Operator → Worth → Worth → Worth
-operatedPlain o Lost b = Lost
-operatedPlain o (Is x) Lost = Lost
+operatedPlain o (Lost s) b = Lost s
+operatedPlain o (Is x) (Lost s) = Lost s
 operatedPlain o (Is x) (Is y) = resultOf o x y
 
 abbrev pub weighedPlain : Function → Worth → Worth → Truth
-weighedPlain f Lost b = Unknown
-weighedPlain f (Is x) Lost = Unknown
+weighedPlain f (Lost s) b = Unknown s
+weighedPlain f (Is x) (Lost s) = Unknown s
 weighedPlain f (Is x) (Is y) = truthOf (testOf f x y)
 
 abbrev pub OperatesPlainly : Type 0

@@ -5,7 +5,7 @@ use mathlib.Core.Bool.{Bool, true, false}
 use Rattle.meaning.specs.Logic.{orOf, targetAnd}
 use Rattle.meaning.specs.declared.Truth.{Truth}
 use Rattle.meaning.specs.declared.Truth.the-variants.{True, False, Unknown}
-use Rattle.meaning.specs.declared.Decision.{Decision}
+use Rattle.meaning.specs.declared.Verdict.{Verdict}
 use Rattle.layout.specs.declared.Level.{Level}
 use Rattle.moves.specs.declared.Next.{Next}
 use Rattle.moves.specs.declared.Change.the-variants.{Keep, Swap, Back}
@@ -16,7 +16,7 @@ use Rattle.layout.specs.Layout.{levelOf, levelWord}
 use Rattle.moves.specs.Moves.{moved, moveOf}
 
 -- targets: the result n, the truths v, u and w that came before
-module _ (n : Next) (v u : Truth) (l : Bool) (j x : ℕ) (t : Truth) (d : Decision) where
+module _ (n : Next) (v u : Truth) (l : Bool) (j x : ℕ) (t : Truth) (d : Verdict) where
   pub section-false : v ≡ False → u ≡ targetAnd t False → n ≡ sectionDone True l j x u d → n ≡ sectionDone v l j x t d
   section-false e f g = on l g
     where
@@ -24,29 +24,29 @@ module _ (n : Next) (v u : Truth) (l : Bool) (j x : ℕ) (t : Truth) (d : Decisi
       on true k = rw (e, ← f) k
       on false k = rw (e, ← f) k
 
-module _ (n : Next) (v : Truth) (c l : Bool) (i j x : ℕ) (t : Truth) (d : Decision) where
+module _ (n : Next) (v : Truth) (c l : Bool) (i j x : ℕ) (t : Truth) (d : Verdict) where
   pub conjunction-last : c ≡ true → n ≡ sectionDone v l j x t d → n ≡ conjunctionDone v c l i j x t d
   conjunction-last e f = rw e (on v f)
     where
       on : (a : Truth) → n ≡ sectionDone a l j x t d → n ≡ conjunctionDone a true l i j x t d
       on True k = k
       on False k = k
-      on Unknown k = k
+      on (Unknown s) k = k
 
-module _ (n : Next) (v w : Truth) (m c l : Bool) (i j x : ℕ) (o t : Truth) (d : Decision) where
+module _ (n : Next) (v w : Truth) (m c l : Bool) (i j x : ℕ) (o t : Truth) (d : Verdict) where
   pub match-last : m ≡ true → w ≡ orOf o v → n ≡ conjunctionDone w c l i j x t d → n ≡ matchDone v m c l i j x o t d
   match-last e f g = rw e (on v (rw f at g))
     where
       on : (a : Truth) → n ≡ conjunctionDone (orOf o a) c l i j x t d → n ≡ matchDone a true c l i j x o t d
       on True k = k
       on False k = k
-      on Unknown k = k
+      on (Unknown s) k = k
 
   pub match-false : v ≡ False → w ≡ orOf o False → n ≡ conjunctionDone w c l i j x t d → n ≡ matchDone v m c l i j x o t d
   match-false e f g = rw e (rw f at g)
 
 -- conditions: the level t that was told, whether that settles it, where to go on, and its number
-module _ (r : Move) (n nest l : ℕ) (d : Decision) (t : Level) (s : Bool) (on : Next) (w : ℕ)
+module _ (r : Move) (n nest l : ℕ) (d : Verdict) (t : Level) (s : Bool) (on : Next) (w : ℕ)
     (settled : s ≡ settledBy (t .op) (t .val)) (goes : on ≡ past s n d) (word : w ≡ levelWord t) where
   pub tell-open : (v : Truth) {k : Level} → (nest ≡ 0 → ⊥) → k ≡ levelOf l → t ≡ toldTo k v → r ≡ moved on (Swap w) Keep Rest → r ≡ moveOf (tell v n nest l d)
   unfolding told settles

@@ -5,13 +5,14 @@ use mathlib.Core.Bool.{Bool, true, false}
 use lib.Dec.{ltb, leb}
 use borrow.Author.Tests.{ltb-true}
 use Rattle.record.specs.Choose.{both}
-use Rattle.meaning.specs.Meaning.{Bags, comparisonOf, is, decisionOf}
+use Rattle.meaning.specs.Meaning.{Bags, comparisonOf, is, decisionOf, decisionIn}
 use Rattle.meaning.specs.declared.Algorithm.{Algorithm}
-use Rattle.meaning.specs.declared.Decision.{Decision}
-use Rattle.meaning.specs.declared.Decision.the-variants.{Permit, Deny, NotApplicable, Indeterminate}
+use Rattle.meaning.specs.declared.Decision.the-variants as decision
+use Rattle.meaning.specs.declared.Verdict.{Verdict}
+use Rattle.meaning.specs.declared.Verdict.the-variants.{Permit, Deny, NotApplicable, Indeterminate}
 use Rattle.meaning.specs.declared.Effect.{Effect}
 use Rattle.meaning.specs.declared.Effect.the-variants.{Permits, Denies}
-use Rattle.algorithm.specs.Fold.{result}
+use Rattle.algorithm.specs.Tally.{verdictSoFar}
 use Rattle.algorithm.specs.declared.Acc.{Acc}
 use Rattle.algorithm.specs.declared.Acc.the-variants.{Ranked, Nobody, Pending, Two, One}
 use Rattle.layout.specs.declared.Head.{Head}
@@ -57,7 +58,7 @@ module _ (P : Entry → Bool → Placing → Type 0) (h : Head) (w : ByEntry P h
   placing-by (sum (tests y k)) l m f b = w .rests (sum (tests y k))
   placing-by (rule e n) l m f b = w .rests (rule e n)
   placing-by (enter al) l m f b = w .rests (enter al)
-  placing-by (applies n) l m f b = go (b .acc)
+  placing-by (applies n) l m f b = go (b .tally .acc)
     where
       go : (a : Acc) → Has (applies n) (noted a b n (h .reg))
       go (Ranked k) = w .rests (applies n)
@@ -65,21 +66,21 @@ module _ (P : Entry → Bool → Placing → Type 0) (h : Head) (w : ByEntry P h
       go Pending = w .rests (applies n)
       go Two = w .rests (applies n)
       go (One d) = w .rests (applies n)
-  placing-by (conclude n) l m f b = go (result (f .alg) (f .acc))
+  placing-by (conclude n) l m f b = go (verdictSoFar (f .alg) (f .tally))
     where
-      go : (d : Decision) → Has (conclude n) (concluded d n (f .permits) (f .denies))
+      go : (v : Verdict) → Has (conclude n) (concluded v n (f .permits) (f .denies))
       go Permit = w .falls n (f .permits) (f .denies) .1
       go Deny = w .falls n (f .permits) (f .denies) .0
       go NotApplicable = w .falls n (f .permits) (f .denies) .2
-      go Indeterminate = w .falls n (f .permits) (f .denies) .2
-  placing-by (oblige e n) l m f b = go e (is (h .reg) (decisionOf e))
+      go (Indeterminate s) = w .falls n (f .permits) (f .denies) .2
+  placing-by (oblige e n) l m f b = go e (is (decisionIn (h .reg)) (decisionOf e))
     where
       go : (e : Effect) (x : Bool) → P (oblige e n) false (pushed e x n)
       go e false = w .rests (oblige e n)
       go Permits true = w .adds n .0
       go Denies true = w .adds n .1
   placing-by (leave n) l m f b = w .rests (leave n)
-  placing-by finish l m f b = go (is (h .reg) Deny) (ltb (h .permits) (h .denies)) refl
+  placing-by finish l m f b = go (is (decisionIn (h .reg)) decision.Deny) (ltb (h .permits) (h .denies)) refl
     where
       go : (y x : Bool) → ltb (h .permits) (h .denies) ≡ x → Has finish (finished (both y x) h)
       go true true e = w .downs (ltb-true (h .permits) (h .denies) e)

@@ -7,18 +7,23 @@ use Rattle.value.specs.Value.{valueOf, testOf}
 use Rattle.value.specs.declared.Function.{Function}
 use Rattle.sums.specs.Sums.{bytesOf, kindOf, resultOf}
 use Rattle.sums.specs.declared.Operator.{Operator}
+use Rattle.sums.specs.declared.Status.the-variants.{Processing}
 use Rattle.sums.specs.declared.Worth.{Worth}
 use Rattle.sums.specs.declared.Worth.the-variants.{Is, Lost}
 use Rattle.meaning.specs.Logic.{andOf, orOf, notOf, targetAnd}
 use Rattle.meaning.specs.Numbers.{keyBy}
-use Rattle.meaning.specs.Meaning.{Bags, truthOf, matchOf, comparisonOf, theOnly, under, decisionOf, is}
+use Rattle.meaning.specs.Meaning.{Bags, truthOf, matchOf, comparisonOf, theOnly, under, decisionOf, effected, decisionIn, is}
 use Rattle.meaning.specs.declared.Truth.{Truth}
 use Rattle.meaning.specs.declared.Truth.the-variants.{True, False, Unknown}
 use Rattle.meaning.specs.declared.Effect.{Effect}
 use Rattle.meaning.specs.declared.Effect.the-variants.{Permits, Denies}
-use Rattle.meaning.specs.declared.Decision.{Decision}
-use Rattle.meaning.specs.declared.Decision.the-variants.{Permit, Deny, NotApplicable, Indeterminate}
-use Rattle.algorithm.specs.Fold.{start, result, settled, absorb}
+use Rattle.meaning.specs.declared.Decision.the-variants as decision
+use Rattle.meaning.specs.declared.Cause.the-variants.{By}
+use Rattle.meaning.specs.declared.Verdict.{Verdict}
+use Rattle.meaning.specs.declared.Verdict.the-variants.{Permit, Deny, NotApplicable, Indeterminate}
+use Rattle.algorithm.specs.Fold.{settled}
+use Rattle.algorithm.specs.Tally.{fresh, tallied, verdictSoFar}
+use Rattle.algorithm.specs.declared.tally.Tally.{Tally}
 use Rattle.algorithm.specs.declared.Acc.{Acc}
 use Rattle.algorithm.specs.declared.Acc.the-variants.{Ranked, Nobody, Pending, Two, One}
 use Rattle.layout.specs.declared.Op.{Op}
@@ -44,45 +49,45 @@ pub record Out : Type 0 where
   pub frames : Changing Frame
   pub placing : Placing
 
-abbrev pub next : ℕ → Decision → Truth → Truth → Truth → Next
+abbrev pub next : ℕ → Verdict → Truth → Truth → Truth → Next
 next n r a o t = record { jump = n; reg = r; ands = a; ors = o; sections = t }
 
 abbrev pub out : Next → Changing ℕ → Changing Frame → Placing → Out
 out n ls fs z = record { next = n; over = false; levels = ls; frames = fs; placing = z }
 
 -- the register and the truths as they are between targets and conditions, and how far to go on: over n entries if b
-abbrev pub clear : ℕ → Decision → Next
+abbrev pub clear : ℕ → Verdict → Next
 clear n r = next n r True False True
 
-abbrev pub past : Bool → ℕ → Decision → Next
+abbrev pub past : Bool → ℕ → Verdict → Next
 past b n r = clear (if b n 0) r
 
 -- a settled target, section, conjunction, match: i to the next conjunction, j to the next section, x out of the target
-abbrev pub targetDone : Truth → ℕ → ℕ → Decision → Next
+abbrev pub targetDone : Truth → ℕ → ℕ → Verdict → Next
 targetDone True j x r = clear j r
 targetDone False j x r = clear x NotApplicable
-targetDone Unknown j x r = clear x Indeterminate
+targetDone (Unknown s) j x r = clear x (Indeterminate s)
 
-abbrev pub sectionDone : Truth → Bool → ℕ → ℕ → Truth → Decision → Next
-sectionDone Unknown l j x t r = clear x Indeterminate
+abbrev pub sectionDone : Truth → Bool → ℕ → ℕ → Truth → Verdict → Next
+sectionDone (Unknown s) l j x t r = targetDone (targetAnd t (Unknown s)) j x r
 sectionDone True true j x t r = targetDone t j x r
 sectionDone False true j x t r = targetDone (targetAnd t False) j x r
 sectionDone True false j x t r = next j r True False t
 sectionDone False false j x t r = next j r True False (targetAnd t False)
 
-abbrev pub conjunctionDone : Truth → Bool → Bool → ℕ → ℕ → ℕ → Truth → Decision → Next
+abbrev pub conjunctionDone : Truth → Bool → Bool → ℕ → ℕ → ℕ → Truth → Verdict → Next
 conjunctionDone True c l i j x t r = sectionDone True l j x t r
 conjunctionDone False true l i j x t r = sectionDone False l j x t r
-conjunctionDone Unknown true l i j x t r = sectionDone Unknown l j x t r
+conjunctionDone (Unknown s) true l i j x t r = sectionDone (Unknown s) l j x t r
 conjunctionDone False false l i j x t r = next i r True False t
-conjunctionDone Unknown false l i j x t r = next i r True Unknown t
+conjunctionDone (Unknown s) false l i j x t r = next i r True (Unknown s) t
 
-abbrev pub matchDone : Truth → Bool → Bool → Bool → ℕ → ℕ → ℕ → Truth → Truth → Decision → Next
+abbrev pub matchDone : Truth → Bool → Bool → Bool → ℕ → ℕ → ℕ → Truth → Truth → Verdict → Next
 matchDone False m c l i j x o t r = conjunctionDone (orOf o False) c l i j x t r
 matchDone True true c l i j x o t r = conjunctionDone (orOf o True) c l i j x t r
-matchDone Unknown true c l i j x o t r = conjunctionDone (orOf o Unknown) c l i j x t r
+matchDone (Unknown s) true c l i j x o t r = conjunctionDone (orOf o (Unknown s)) c l i j x t r
 matchDone True false c l i j x o t r = next 0 r True o t
-matchDone Unknown false c l i j x o t r = next 0 r Unknown o t
+matchDone (Unknown s) false c l i j x o t r = next 0 r (Unknown s) o t
 
 -- conditions: and, or and not before their first part, with one part more, and when no further part matters
 abbrev pub startOf : Op → Truth
@@ -98,10 +103,10 @@ foldOf Not a v = notOf v
 abbrev pub settledBy : Op → Truth → Bool
 settledBy All False = true
 settledBy All True = false
-settledBy All Unknown = false
+settledBy All (Unknown s) = false
 settledBy Any True = true
 settledBy Any False = false
-settledBy Any Unknown = false
+settledBy Any (Unknown s) = false
 settledBy Not a = false
 
 -- a level is a number, taken apart where a condition needs it
@@ -122,34 +127,34 @@ unfoldable pub valueIn : ℕ → Truth
 valueIn l = levelOf l .val
 
 -- in the register Permit stands for True, NotApplicable for False
-abbrev pub through : Truth → Decision
+abbrev pub through : Truth → Verdict
 through t = under t Permit
 
 -- a part has the value v: the level is told, or, where no condition is open, the register holds it
-abbrev pub tell : Truth → ℕ → ℕ → ℕ → Decision → Out
+abbrev pub tell : Truth → ℕ → ℕ → ℕ → Verdict → Out
 tell v n zero l r = out (clear 0 (through v)) keep keep Rest
 tell v n (suc k) l r = out (past (settles l v) n r) (swap (told l v)) keep Rest
 
 -- the condition on top, of k that are open, is closed: it tells its value to the one below
-abbrev pub closed : ℕ → ℕ → ℕ → ℕ → Decision → Out
+abbrev pub closed : ℕ → ℕ → ℕ → ℕ → Verdict → Out
 closed n zero l m r = out (clear 0 r) keep keep Rest
 closed n (suc zero) l m r = out (clear 0 (through (valueIn l))) (back m) keep Rest
 closed n (suc (suc k)) l m r = out (past (settles m (valueIn l)) n r) (back (told m (valueIn l))) keep Rest
 
 -- values of a comparison stand on the levels as their eight bytes; a value that is lost stands as 0, and the first number's `ands`, idle inside
--- conditions, keeps Unknown from then on to the comparison
+-- conditions, keeps Unknown with the first one's status from then on to the comparison
 abbrev pub wordOf : Worth → ℕ
 wordOf (Is v) = bytesOf v
-wordOf Lost = 0
+wordOf (Lost s) = 0
 
 abbrev pub markOf : Worth → Truth
 markOf (Is v) = True
-markOf Lost = Unknown
+markOf (Lost s) = Unknown s
 
 abbrev pub since : Truth → Worth → Worth
 since True w = w
 since False w = w
-since Unknown w = Lost
+since (Unknown s) w = Lost s
 
 -- an operator on two words; a comparison of two words
 abbrev pub worked : Operator → ℕ → ℕ → Worth
@@ -158,7 +163,7 @@ worked o x y = resultOf o (valueOf (kindOf o) x) (valueOf (kindOf o) y)
 abbrev pub tested : Truth → Function → ℕ → ℕ → ℕ → Truth
 tested True f k x y = truthOf (testOf f (valueOf k x) (valueOf k y))
 tested False f k x y = truthOf (testOf f (valueOf k x) (valueOf k y))
-tested Unknown f k x y = Unknown
+tested (Unknown s) f k x y = Unknown s
 
 abbrev pub carried : Head → Truth → Changing ℕ → Out
 carried h mark ls = out (next 0 (h .reg) mark (h .ors) (h .sections)) ls keep Rest
@@ -178,28 +183,34 @@ pieced g h (works o) l m = leaves h (since (h .ands) (worked o m l))
 pieced g h (tests f k) l m = carried h True (back (level All (tested (h .ands) f k m l)))
 
 -- rules, policies and sets
-abbrev pub ruled : Effect → Decision → Decision
-ruled e Permit = decisionOf e
-ruled e Deny = decisionOf e
+abbrev pub ruled : Effect → Verdict → Verdict
+ruled e Permit = effected e
+ruled e Deny = effected e
 ruled e NotApplicable = NotApplicable
-ruled e Indeterminate = Indeterminate
+ruled e (Indeterminate s) = Indeterminate s
 
-abbrev pub put : Frame → Acc → Frame
-put f a = record { alg = f .alg; acc = a; permits = f .permits; denies = f .denies }
+abbrev pub put : Frame → Tally → Frame
+put f k = record { alg = f .alg; tally = k; permits = f .permits; denies = f .denies }
 
-abbrev pub concluded : Decision → ℕ → ℕ → ℕ → Out
+abbrev pub concluded : Verdict → ℕ → ℕ → ℕ → Out
 concluded Permit n p d = out (clear 0 Permit) keep keep (FallDeny d)
 concluded Deny n p d = out (clear 0 Deny) keep keep (FallPermit p)
 concluded NotApplicable n p d = out (clear n NotApplicable) keep keep (FallBoth p d)
-concluded Indeterminate n p d = out (clear n Indeterminate) keep keep (FallBoth p d)
+concluded (Indeterminate s) n p d = out (clear n (Indeterminate s)) keep keep (FallBoth p d)
 
--- a child's target matches: the only-one set below notes it; a second one settles the set, and the child is left out
-abbrev pub noted : Acc → Frame → ℕ → Decision → Out
-noted Nobody h n r = out (clear 0 r) keep (below (put h Pending)) Rest
-noted Pending h n r = out (clear n Permit) keep (back (put h Two)) Rest
-noted Two h n r = out (clear n Permit) keep (back (put h Two)) Rest
-noted (One d) h n r = out (clear n Permit) keep (back (put h Two)) Rest
-noted (Ranked k) h n r = out (clear n Permit) keep (back (put h Two)) Rest
+-- a child's target matches: the only-one set below notes it; a second one settles the set as a processing error, and the child is left out
+abbrev pub oneApplies : Frame → Tally
+oneApplies h = record { acc = Pending; cause = h .tally .cause }
+
+abbrev pub twoApply : Tally
+twoApply = record { acc = Two; cause = By Processing }
+
+abbrev pub noted : Acc → Frame → ℕ → Verdict → Out
+noted Nobody h n r = out (clear 0 r) keep (below (put h (oneApplies h))) Rest
+noted Pending h n r = out (clear n Permit) keep (back (put h twoApply)) Rest
+noted Two h n r = out (clear n Permit) keep (back (put h twoApply)) Rest
+noted (One d) h n r = out (clear n Permit) keep (back (put h twoApply)) Rest
+noted (Ranked k) h n r = out (clear n Permit) keep (back (put h twoApply)) Rest
 
 abbrev pub pushed : Effect → Bool → ℕ → Placing
 pushed e false n = Rest
@@ -222,7 +233,7 @@ finished false h = ending h true Rest
 
 -- the core of a step, by the first number, the entry, the levels on top and below, the frames on top and below
 unfoldable pub core : Bags → Head → Entry → ℕ → ℕ → Frame → Frame → Out
-core g h (begin al c) l m f b = out (clear 0 Permit) keep (push (record { alg = al; acc = start al; permits = 0; denies = 0 })) (Cut c)
+core g h (begin al c) l m f b = out (clear 0 Permit) keep (push (record { alg = al; tally = fresh al; permits = 0; denies = 0 })) (Cut c)
 core g h (match t k c s i j x) l m f b =
     out (matchDone (andOf (h .ands) (matchOf g t)) k c s i j x (h .ors) (h .sections) (h .reg)) keep keep Rest
 core g h further l m f b = out (clear 0 (h .reg)) keep keep Rest
@@ -231,15 +242,15 @@ core g h (compare t n) l m f b = tell (comparisonOf g t) n (h .nest) l (h .reg)
 core g h (close n) l m f b = closed n (h .nest) l m (h .reg)
 core g h (sum p) l m f b = pieced g h p l m
 core g h (rule e n) l m f b =
-    let a = absorb (f .alg) (f .acc) e (ruled e (h .reg)) in
-    out (past (settled (f .alg) a) n Permit) keep (swap (put f a)) Rest
+    let k = tallied (f .alg) (f .tally) e (ruled e (h .reg)) in
+    out (past (settled (f .alg) (k .acc)) n Permit) keep (swap (put f k)) Rest
 core g h (enter al) l m f b =
     out (next 0 Permit (h .ands) (h .ors) (h .sections)) keep
-    (push (record { alg = al; acc = start al; permits = h .permits; denies = h .denies })) Rest
-core g h (applies n) l m f b = noted (b .acc) b n (h .reg)
-core g h (conclude n) l m f b = concluded (result (f .alg) (f .acc)) n (f .permits) (f .denies)
-core g h (oblige e n) l m f b = out (clear 0 (h .reg)) keep keep (pushed e (is (h .reg) (decisionOf e)) n)
+    (push (record { alg = al; tally = fresh al; permits = h .permits; denies = h .denies })) Rest
+core g h (applies n) l m f b = noted (b .tally .acc) b n (h .reg)
+core g h (conclude n) l m f b = concluded (verdictSoFar (f .alg) (f .tally)) n (f .permits) (f .denies)
+core g h (oblige e n) l m f b = out (clear 0 (h .reg)) keep keep (pushed e (is (decisionIn (h .reg)) (decisionOf e)) n)
 core g h (leave n) l m f b =
-    let a = absorb (b .alg) (b .acc) Permits (h .reg) in
-    out (past (settled (b .alg) a) n Permit) keep (back (put b a)) Rest
-core g h finish l m f b = finished (both (is (h .reg) Deny) (ltb (h .permits) (h .denies))) h
+    let k = tallied (b .alg) (b .tally) Permits (h .reg) in
+    out (past (settled (b .alg) (k .acc)) n Permit) keep (back (put b k)) Rest
+core g h finish l m f b = finished (both (is (decisionIn (h .reg)) decision.Deny) (ltb (h .permits) (h .denies))) h

@@ -9,8 +9,8 @@ use layout::Level;
 use layout::Op;
 use layout::level_of;
 use layout::level_word;
-use meaning::Decision;
 use meaning::Truth;
+use meaning::Verdict;
 ghost use mathlib.Core.Path.{_≡_};
 ghost use Rattle.moves.specs.Core.{startOf, foldOf, settledBy, toldTo, through, tell, closed};
 ghost use Rattle.moves.specs.Moves.{moveOf};
@@ -42,12 +42,12 @@ fn settled_by(op: Op, t: Truth) -> bool
         Op::All => match t {
             Truth::True => false,
             Truth::False => true,
-            Truth::Unknown => false,
+            Truth::Unknown(_) => false,
         },
         Op::Any => match t {
             Truth::True => true,
             Truth::False => false,
-            Truth::Unknown => false,
+            Truth::Unknown(_) => false,
         },
         Op::Not => false,
     }
@@ -64,13 +64,13 @@ fn told_to(l: Level, v: Truth) -> Level
     }
 }
 
-fn in_register(t: Truth) -> Decision
+fn in_register(t: Truth) -> Verdict
     ensures { λ r. ⌜ r ≡ through t ⌝ }
 {
-    meaning::under(t, Decision::Permit)
+    meaning::under(t, Verdict::Permit)
 }
 
-pub fn tell_level(v: Truth, n: u64, nest: u64, l: u64, d: Decision) -> Move
+pub fn tell_level(v: Truth, n: u64, nest: u64, l: u64, d: Verdict) -> Move
     ensures { λ r. ⌜ r ≡ moveOf (tell v n nest l d) ⌝ }
 {
     if nest == 0 {
@@ -84,7 +84,7 @@ pub fn tell_level(v: Truth, n: u64, nest: u64, l: u64, d: Decision) -> Move
     moving(on, Change::Swap(level_word(t)), Change::Keep, Placing::Rest)
 }
 
-pub fn close_level(n: u64, nest: u64, l: u64, m: u64, d: Decision) -> Move
+pub fn close_level(n: u64, nest: u64, l: u64, m: u64, d: Verdict) -> Move
     ensures { λ r. ⌜ r ≡ moveOf (closed n nest l m d) ⌝ }
 {
     if nest == 0 {

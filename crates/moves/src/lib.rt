@@ -4,8 +4,8 @@ pub mod policies;
 pub mod targets;
 
 use layout::Head;
-use meaning::Decision;
 use meaning::Truth;
+use meaning::Verdict;
 ghost use mathlib.Core.Path.{_≡_};
 ghost use Rattle.moves.specs.Core.{next, clear, past};
 ghost use Rattle.moves.specs.Moves.{moved};
@@ -13,7 +13,7 @@ ghost use Rattle.moves.specs.Moves.{moved};
 // How many entries a step leaves out, and the register and the three truths that it leaves.
 pub struct Next {
     pub jump: u64,
-    pub reg: Decision,
+    pub reg: Verdict,
     pub ands: Truth,
     pub ors: Truth,
     pub sections: Truth,
@@ -49,25 +49,25 @@ pub struct Move {
     pub placing: Placing,
 }
 
-pub fn cleared(n: u64, d: Decision) -> Next
-    ensures { λ r. ⌜ r ≡ clear n d ⌝ }
+pub fn cleared(n: u64, v: Verdict) -> Next
+    ensures { λ r. ⌜ r ≡ clear n v ⌝ }
 {
     Next {
         jump: n,
-        reg: d,
+        reg: v,
         ands: Truth::True,
         ors: Truth::False,
         sections: Truth::True,
     }
 }
 
-pub fn past_if(b: bool, n: u64, d: Decision) -> Next
-    ensures { λ r. ⌜ r ≡ past b n d ⌝ }
+pub fn past_if(b: bool, n: u64, v: Verdict) -> Next
+    ensures { λ r. ⌜ r ≡ past b n v ⌝ }
 {
     if b {
-        return cleared(n, d);
+        return cleared(n, v);
     }
-    cleared(0, d)
+    cleared(0, v)
 }
 
 // The register and the truths stay as they are.

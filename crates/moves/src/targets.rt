@@ -1,8 +1,8 @@
 // What a match does to its conjunction, its section and its target.
 use crate::Next;
 use crate::cleared;
-use meaning::Decision;
 use meaning::Truth;
+use meaning::Verdict;
 ghost use mathlib.Core.Path.{_≡_};
 ghost use Rattle.moves.specs.Core.{targetDone, sectionDone, conjunctionDone, matchDone};
 
@@ -17,17 +17,17 @@ pub struct Stands {
     pub x: u64,
 }
 
-fn target_done(t: Truth, j: u64, x: u64, d: Decision) -> Next
+fn target_done(t: Truth, j: u64, x: u64, d: Verdict) -> Next
     ensures { λ r. ⌜ r ≡ targetDone t j x d ⌝ }
 {
     match t {
         Truth::True => cleared(j, d),
-        Truth::False => cleared(x, Decision::NotApplicable),
-        Truth::Unknown => cleared(x, Decision::Indeterminate),
+        Truth::False => cleared(x, Verdict::NotApplicable),
+        Truth::Unknown(s) => cleared(x, Verdict::Indeterminate(s)),
     }
 }
 
-fn section_held(last: bool, j: u64, x: u64, t: Truth, d: Decision) -> Next
+fn section_held(last: bool, j: u64, x: u64, t: Truth, d: Verdict) -> Next
     ensures { λ r. ⌜ r ≡ sectionDone (Truth.True) last j x t d ⌝ }
 {
     if last {
@@ -42,17 +42,17 @@ fn section_held(last: bool, j: u64, x: u64, t: Truth, d: Decision) -> Next
     }
 }
 
-fn section_done(v: Truth, last: bool, j: u64, x: u64, t: Truth, d: Decision) -> Next
+fn section_done(v: Truth, last: bool, j: u64, x: u64, t: Truth, d: Verdict) -> Next
     ensures { λ r. ⌜ r ≡ sectionDone v last j x t d ⌝ }
 {
     match v {
         Truth::True => section_held(last, j, x, t, d),
         Truth::False => section_held(last, j, x, meaning::target3(t, Truth::False), d),
-        Truth::Unknown => cleared(x, Decision::Indeterminate),
+        Truth::Unknown(_) => target_done(meaning::target3(t, v), j, x, d),
     }
 }
 
-fn conjunction_done(v: Truth, s: Stands, t: Truth, d: Decision) -> Next
+fn conjunction_done(v: Truth, s: Stands, t: Truth, d: Verdict) -> Next
     ensures { λ r. ⌜ r ≡ conjunctionDone v (s .c) (s .l) (s .i) (s .j) (s .x) t d ⌝ }
 {
     if s.c {
@@ -67,17 +67,17 @@ fn conjunction_done(v: Truth, s: Stands, t: Truth, d: Decision) -> Next
             ors: Truth::False,
             sections: t,
         },
-        Truth::Unknown => Next {
+        Truth::Unknown(_) => Next {
             jump: s.i,
             reg: d,
             ands: Truth::True,
-            ors: Truth::Unknown,
+            ors: v,
             sections: t,
         },
     }
 }
 
-pub fn match_done(v: Truth, s: Stands, o: Truth, t: Truth, d: Decision) -> Next
+pub fn match_done(v: Truth, s: Stands, o: Truth, t: Truth, d: Verdict) -> Next
     ensures { λ r. ⌜ r ≡ matchDone v (s .m) (s .c) (s .l) (s .i) (s .j) (s .x) o t d ⌝ }
 {
     if s.m {
@@ -92,10 +92,10 @@ pub fn match_done(v: Truth, s: Stands, o: Truth, t: Truth, d: Decision) -> Next
             ors: o,
             sections: t,
         },
-        Truth::Unknown => Next {
+        Truth::Unknown(_) => Next {
             jump: 0,
             reg: d,
-            ands: Truth::Unknown,
+            ands: v,
             ors: o,
             sections: t,
         },

@@ -19,18 +19,18 @@ use Rattle.pieces.specs.Pieces.{sinceWord, wordIn, markIn}
 since-is : (a : Truth) (w : Worth) → sinceWord a (inBytes w) ≡ inBytes (since a w)
 since-is True w = refl
 since-is False w = refl
-since-is Unknown w = refl
+since-is (Unknown s) w = refl
 
 abbrev going : Head → Word → Next
 going h x = next 0 (h .reg) (markIn x) (h .ors) (h .sections)
 
 push-is : (h : Head) (w : Worth) → moved (going h (inBytes w)) (Push (wordIn (inBytes w))) Keep Rest ≡ moveOf (pushes h w)
 push-is h (Is v) = refl
-push-is h Lost = refl
+push-is h (Lost s) = refl
 
 leave-is : (h : Head) (w : Worth) → moved (going h (inBytes w)) (Back (wordIn (inBytes w))) Keep Rest ≡ moveOf (leaves h w)
 leave-is h (Is v) = refl
-leave-is h Lost = refl
+leave-is h (Lost s) = refl
 
 keeps : (h : Head) (w : Worth) {found x : Word} → found ≡ inBytes w → x ≡ sinceWord (h .ands) found → x ≡ inBytes (since (h .ands) w)
 keeps h w e k = k ∙ ap (sinceWord (h .ands)) e ∙ since-is (h .ands) w

@@ -8,12 +8,12 @@ use Rattle.meaning.specs.declared.Truth.the-variants.{True, False, Unknown}
 abbrev pub sinceWord : Truth → Word → Word
 sinceWord True w = w
 sinceWord False w = w
-sinceWord Unknown w = Nothing
+sinceWord (Unknown s) w = Nothing s
 
 abbrev pub wordIn : Word → ℕ
 wordIn (Holds n) = n
-wordIn Nothing = 0
+wordIn (Nothing s) = 0
 
 abbrev pub markIn : Word → Truth
 markIn (Holds n) = True
-markIn Nothing = Unknown
+markIn (Nothing s) = Unknown s

@@ -22,14 +22,14 @@ ghost use Rattle.moves.specs.Core.{back, next, level, since, worked, tested, ca
 ghost use Rattle.moves.specs.Moves.{moveOf};
 ghost use Rattle.pieces.specs.Pieces.{sinceWord, wordIn, markIn};
 
-// Once an operand is lost, all that is found after it is lost, up to the comparison.
+// Once an operand is lost, all that is found after it is lost for the same reason, up to the comparison.
 fn since_word(ands: Truth, w: Word) -> Word
     ensures { λ r. ⌜ r ≡ sinceWord ands w ⌝ }
 {
     match ands {
         Truth::True => w,
         Truth::False => w,
-        Truth::Unknown => Word::Nothing,
+        Truth::Unknown(s) => Word::Nothing(s),
     }
 }
 
@@ -38,7 +38,7 @@ fn word_in(w: Word) -> u64
 {
     match w {
         Word::Holds(n) => n,
-        Word::Nothing => 0,
+        Word::Nothing(_) => 0,
     }
 }
 
@@ -47,7 +47,7 @@ fn mark_in(w: Word) -> Truth
 {
     match w {
         Word::Holds(_) => Truth::True,
-        Word::Nothing => Truth::Unknown,
+        Word::Nothing(s) => Truth::Unknown(s),
     }
 }
 
@@ -89,10 +89,7 @@ pub fn work_words(h: Head, op: Operator, l: u64, m: u64) -> Move
 fn compared(f: Function, kind: usize, x: u64, y: u64) -> Truth
     ensures { λ r. ⌜ r ≡ truthOf (testOf f (valueOf kind x) (valueOf kind y)) ⌝ }
 {
-    if value::holds(f, value::value_of(kind, x), value::value_of(kind, y)) {
-        return Truth::True;
-    }
-    Truth::False
+    meaning::truth_of(value::holds(f, value::value_of(kind, x), value::value_of(kind, y)))
 }
 
 fn tested_by(ands: Truth, f: Function, kind: usize, x: u64, y: u64) -> Truth
@@ -101,7 +98,7 @@ fn tested_by(ands: Truth, f: Function, kind: usize, x: u64, y: u64) -> Truth
     match ands {
         Truth::True => compared(f, kind, x, y),
         Truth::False => compared(f, kind, x, y),
-        Truth::Unknown => Truth::Unknown,
+        Truth::Unknown(_) => ands,
     }
 }
 

@@ -10,13 +10,15 @@ use borrow.Author.Tests.{ltb-true, leb-true}
 use Rattle.record.specs.Choose.{if, both}
 use Rattle.record.proofs.Choose.{both-parts}
 use Rattle.meaning.specs.Logic.{andOf, orOf, targetAnd}
-use Rattle.meaning.specs.Meaning.{Bags, matchOf, comparisonOf, is}
+use Rattle.meaning.specs.Meaning.{Bags, matchOf, comparisonOf, decisionIn, is}
 use Rattle.meaning.specs.declared.Truth.{Truth}
 use Rattle.meaning.specs.declared.Truth.the-variants.{True, False, Unknown}
-use Rattle.meaning.specs.declared.Decision.{Decision}
-use Rattle.meaning.specs.declared.Decision.the-variants.{Permit, Deny, NotApplicable, Indeterminate}
+use Rattle.meaning.specs.declared.Decision.the-variants as decision
+use Rattle.meaning.specs.declared.Verdict.{Verdict}
+use Rattle.meaning.specs.declared.Verdict.the-variants.{Permit, Deny, NotApplicable, Indeterminate}
 use Rattle.meaning.specs.declared.Effect.the-variants.{Permits}
-use Rattle.algorithm.specs.Fold.{result, settled, absorb}
+use Rattle.algorithm.specs.Fold.{settled}
+use Rattle.algorithm.specs.Tally.{tallied, verdictSoFar}
 use Rattle.algorithm.specs.declared.Acc.{Acc}
 use Rattle.algorithm.specs.declared.Acc.the-variants.{Ranked, Nobody, Pending, Two, One}
 use Rattle.layout.specs.declared.Head.{Head}
@@ -37,33 +39,33 @@ use Rattle.layout.specs.Ranges.{Ranged}
 use Rattle.stacks.specs.Carry.{Placed}
 
 -- how far a match leads
-target-far : (v : Truth) (j x : ℕ) (r : Decision) → targetDone v j x r .jump ≤ max j x
+target-far : (v : Truth) (j x : ℕ) (r : Verdict) → targetDone v j x r .jump ≤ max j x
 target-far True j x r = omega arith
 target-far False j x r = omega arith
-target-far Unknown j x r = omega arith
+target-far (Unknown s) j x r = omega arith
 
-section-far : (v : Truth) (l : Bool) (j x : ℕ) (t : Truth) (r : Decision) → sectionDone v l j x t r .jump ≤ max j x
-section-far Unknown l j x t r = omega arith
+section-far : (v : Truth) (l : Bool) (j x : ℕ) (t : Truth) (r : Verdict) → sectionDone v l j x t r .jump ≤ max j x
+section-far (Unknown s) l j x t r = target-far (targetAnd t (Unknown s)) j x r
 section-far True true j x t r = target-far t j x r
 section-far False true j x t r = target-far (targetAnd t False) j x r
 section-far True false j x t r = omega arith
 section-far False false j x t r = omega arith
 
-conjunction-far : (v : Truth) (c l : Bool) (i j x : ℕ) (t : Truth) (r : Decision) → conjunctionDone v c l i j x t r .jump ≤ max i (max j x)
+conjunction-far : (v : Truth) (c l : Bool) (i j x : ℕ) (t : Truth) (r : Verdict) → conjunctionDone v c l i j x t r .jump ≤ max i (max j x)
 conjunction-far True c l i j x t r = let h = section-far True l j x t r in omega (arith, h)
 conjunction-far False true l i j x t r = let h = section-far False l j x t r in omega (arith, h)
-conjunction-far Unknown true l i j x t r = let h = section-far Unknown l j x t r in omega (arith, h)
+conjunction-far (Unknown s) true l i j x t r = let h = section-far (Unknown s) l j x t r in omega (arith, h)
 conjunction-far False false l i j x t r = omega arith
-conjunction-far Unknown false l i j x t r = omega arith
+conjunction-far (Unknown s) false l i j x t r = omega arith
 
-match-far : (v : Truth) (m c l : Bool) (i j x : ℕ) (o t : Truth) (r : Decision) → matchDone v m c l i j x o t r .jump ≤ max i (max j x)
+match-far : (v : Truth) (m c l : Bool) (i j x : ℕ) (o t : Truth) (r : Verdict) → matchDone v m c l i j x o t r .jump ≤ max i (max j x)
 match-far False m c l i j x o t r = conjunction-far (orOf o False) c l i j x t r
 match-far True true c l i j x o t r = conjunction-far (orOf o True) c l i j x t r
-match-far Unknown true c l i j x o t r = conjunction-far (orOf o Unknown) c l i j x t r
+match-far (Unknown s) true c l i j x o t r = conjunction-far (orOf o (Unknown s)) c l i j x t r
 match-far True false c l i j x o t r = omega arith
-match-far Unknown false c l i j x o t r = omega arith
+match-far (Unknown s) false c l i j x o t r = omega arith
 
-past-far : (b : Bool) (n : ℕ) (r : Decision) → past b n r .jump ≤ n
+past-far : (b : Bool) (n : ℕ) (r : Verdict) → past b n r .jump ≤ n
 past-far true n r = omega arith
 past-far false n r = omega arith
 
@@ -90,9 +92,9 @@ inside (sum (loads k n)) g long h l m f b w = w
 inside (sum (asks key)) g long h l m f b w = w
 inside (sum (works o)) g long h l m f b w = w
 inside (sum (tests y k)) g long h l m f b w = w
-inside (rule e n) g long h l m f b w = let z = past-far (settled (f .alg) (absorb (f .alg) (f .acc) e (Rattle.moves.specs.Core.ruled e (h .reg)))) n Permit in omega (arith, w, z)
+inside (rule e n) g long h l m f b w = let z = past-far (settled (f .alg) (tallied (f .alg) (f .tally) e (Rattle.moves.specs.Core.ruled e (h .reg)) .acc)) n Permit in omega (arith, w, z)
 inside (enter al) g long h l m f b w = w
-inside (applies n) g long h l m f b w = let z = go (b .acc) in omega (arith, w, z)
+inside (applies n) g long h l m f b w = let z = go (b .tally .acc) in omega (arith, w, z)
   where
     go : (a : Acc) → noted a b n (h .reg) .next .jump ≤ n
     go (Ranked k) = omega arith
@@ -100,16 +102,16 @@ inside (applies n) g long h l m f b w = let z = go (b .acc) in omega (arith, w, 
     go Pending = omega arith
     go Two = omega arith
     go (One d) = omega arith
-inside (conclude n) g long h l m f b w = let z = go (result (f .alg) (f .acc)) in omega (arith, w, z)
+inside (conclude n) g long h l m f b w = let z = go (verdictSoFar (f .alg) (f .tally)) in omega (arith, w, z)
   where
-    go : (d : Decision) → concluded d n (f .permits) (f .denies) .next .jump ≤ n
+    go : (v : Verdict) → concluded v n (f .permits) (f .denies) .next .jump ≤ n
     go Permit = omega arith
     go Deny = omega arith
     go NotApplicable = omega arith
-    go Indeterminate = omega arith
+    go (Indeterminate s) = omega arith
 inside (oblige e n) g long h l m f b w = w
-inside (leave n) g long h l m f b w = let z = past-far (settled (b .alg) (absorb (b .alg) (b .acc) Permits (h .reg))) n Permit in omega (arith, w, z)
-inside finish g long h l m f b w = go (both (is (h .reg) Deny) (ltb (h .permits) (h .denies)))
+inside (leave n) g long h l m f b w = let z = past-far (settled (b .alg) (tallied (b .alg) (b .tally) Permits (h .reg) .acc)) n Permit in omega (arith, w, z)
+inside finish g long h l m f b w = go (both (is (decisionIn (h .reg)) decision.Deny) (ltb (h .permits) (h .denies)))
   where
     go : (x : Bool) → h .at + suc (0 + finished x h .next .jump) ≤ long
     go true = w

@@ -11,8 +11,8 @@ use Rattle.stacks.specs.Machine.{heightAfter, stackAfter, placesAfter}
 use Rattle.layout.specs.Layout.{frameWord, frameOf, unpackOf, packOf, fetch}
 use mathlib.Core.List.{List}
 use lib.ListN.{length, getD, replicate}
-use Rattle.meaning.specs.declared.Decision.{Decision}
-use Rattle.meaning.specs.declared.Decision.the-variants.{Permit, Deny, NotApplicable, Indeterminate}
+use Rattle.meaning.specs.declared.Verdict.{Verdict}
+use Rattle.meaning.specs.declared.Verdict.the-variants.{Permit, Deny, NotApplicable, Indeterminate}
 use Rattle.meaning.specs.declared.Truth.the-variants.{True, False}
 use Rattle.layout.specs.declared.State.{State}
 use Rattle.stacks.specs.Carry.{inWords, headTo}
@@ -45,15 +45,15 @@ mayStep p s = let h = unpackOf (s .head) in lawful (length p) (h .at) (fetch p (
 unfoldable pub stepOf : List ℕ → Bags → State → State
 stepOf p g s = let h = unpackOf (s .head) in let e = fetch p (h .at) in after h e (seen g s h e) s
 
--- the first number says whether the run is finished, with which decision and how many obligations
+-- the first number says whether the run is finished, with which decision and code and how many obligations
 unfoldable pub isOver : State → Bool
 isOver s = unpackOf (s .head) .over
 
-abbrev pub countBy : Decision → Head → ℕ
+abbrev pub countBy : Verdict → Head → ℕ
 countBy Permit h = h .permits
 countBy Deny h = h .denies
 countBy NotApplicable h = 0
-countBy Indeterminate h = 0
+countBy (Indeterminate s) h = 0
 
 -- a step, if it may be taken
 pub record Stepped : Type 0 where

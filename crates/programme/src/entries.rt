@@ -10,9 +10,9 @@ use layout::frame_word;
 use layout::level_word;
 use layout::op_by;
 use layout::operator_by;
-use meaning::Decision;
 use meaning::Effect;
 use meaning::Test;
+use meaning::Verdict;
 use moves::Change;
 use moves::Move;
 use moves::Next;
@@ -41,8 +41,9 @@ ghost use Prim.Native.Nat.{ℕ, suc, _+_, _-_, _/_, _%_, _<_, max, min};
 ghost use lib.Dec.{leb, ltb, eqb};
 ghost use lib.ListN.{length, getD};
 ghost use Rattle.record.specs.Choose.{both};
-ghost use Rattle.meaning.specs.Meaning.{Bags, is};
+ghost use Rattle.meaning.specs.Meaning.{Bags, decisionIn, is};
 ghost use Rattle.meaning.specs.Reading.{bagsOf};
+ghost use Rattle.meaning.specs.declared.Decision.the-variants.{Deny};
 ghost use Rattle.layout.specs.Entry.{begin, opens, close, sum, rule, enter, applies, conclude, oblige, leave, finish};
 ghost use Rattle.moves.specs.Core.{atOnce, ending, finished};
 ghost use Rattle.layout.specs.Layout.{testOf, matchBy, compareBy, pieceBy, effectBy, opBy, algorithmBy, frameOf, fetch};
@@ -76,7 +77,7 @@ fn begin_at(long: u64, h: Head, n: u64) -> Met
 {
     let cut = n / 8;
     let w = entered(n % 8, 0, 0);
-    let first = cleared(0, Decision::Permit);
+    let first = cleared(0, Verdict::Permit);
     let m = moving(first, Change::Keep, Change::Push(w), Placing::Cut(cut));
     unless_outside(cut <= layout::PLACES as u64, m, 0)
 }
@@ -236,11 +237,12 @@ fn rule_at(long: u64, h: Head, n: u64, f: u64) -> Met
     let e = effect_by(n % 2);
     let top = frame_of(f);
     let alg = top.alg;
-    let acc = top.acc;
+    let tally = top.tally;
     let reg = h.reg;
-    let a = algorithm::take_in(alg, acc, e, ruled_by(e, reg));
-    let on = past_if(algorithm::settles(alg, a), jump, Decision::Permit);
-    let w = frame_word(put_in(top, a));
+    let k = algorithm::tally::take_in(alg, tally, e, ruled_by(e, reg));
+    let acc = k.acc;
+    let on = past_if(algorithm::settles(alg, acc), jump, Verdict::Permit);
+    let w = frame_word(put_in(top, k));
     let m = moving(on, Change::Keep, Change::Swap(w), Placing::Rest);
     unless_outside(reaches(long, h.at, jump), m, 0)
 }
@@ -255,7 +257,7 @@ fn enter_at(long: u64, h: Head, n: u64) -> Met
     let w = entered(n, h.permits, h.denies);
     let on = Next {
         jump: 0,
-        reg: Decision::Permit,
+        reg: Verdict::Permit,
         ands,
         ors,
         sections,
@@ -282,8 +284,9 @@ fn conclude_at(long: u64, h: Head, n: u64, f: u64) -> Met
 {
     let top = frame_of(f);
     let alg = top.alg;
-    let acc = top.acc;
-    let m = conclude_by(algorithm::outcome(alg, acc), n, top.permits, top.denies);
+    let tally = top.tally;
+    let verdict = algorithm::tally::verdict(alg, tally);
+    let m = conclude_by(verdict, n, top.permits, top.denies);
     unless_outside(reaches(long, h.at, n), m, 0)
 }
 
@@ -305,24 +308,25 @@ fn leave_at(long: u64, h: Head, n: u64, b: u64) -> Met
 {
     let under = frame_of(b);
     let alg = under.alg;
-    let acc = under.acc;
+    let tally = under.tally;
     let reg = h.reg;
-    let a = algorithm::take_in(alg, acc, Effect::Permits, reg);
-    let on = past_if(algorithm::settles(alg, a), n, Decision::Permit);
-    let w = frame_word(put_in(under, a));
+    let k = algorithm::tally::take_in(alg, tally, Effect::Permits, reg);
+    let acc = k.acc;
+    let on = past_if(algorithm::settles(alg, acc), n, Verdict::Permit);
+    let w = frame_word(put_in(under, k));
     let m = moving(on, Change::Keep, Change::Back(w), Placing::Rest);
     unless_outside(reaches(long, h.at, n), m, 0)
 }
 
 // The end.
-fn is_deny(d: Decision) -> bool
-    ensures { λ r. ⌜ r ≡ is d (Decision.Deny) ⌝ }
+fn is_deny(v: Verdict) -> bool
+    ensures { λ r. ⌜ r ≡ is (decisionIn v) Deny ⌝ }
 {
-    match d {
-        Decision::Permit => false,
-        Decision::Deny => true,
-        Decision::NotApplicable => false,
-        Decision::Indeterminate => false,
+    match v {
+        Verdict::Permit => false,
+        Verdict::Deny => true,
+        Verdict::NotApplicable => false,
+        Verdict::Indeterminate(_) => false,
     }
 }
 
@@ -354,7 +358,7 @@ fn ending_by(h: Head, over: bool, placing: Placing) -> Move
 
 fn finish_by(h: Head) -> Move
     requires { ⌜ Held h ⌝ }
-    ensures { λ r. ⌜ r ≡ moveOf (finished (both (is (h .reg) (Decision.Deny)) (ltb (h .permits) (h .denies))) h) ⌝ }
+    ensures { λ r. ⌜ r ≡ moveOf (finished (both (is (decisionIn (h .reg)) Deny) (ltb (h .permits) (h .denies))) h) ⌝ }
 {
     let reg = h.reg;
     if !is_deny(reg) {

@@ -10,7 +10,7 @@ use lib.Seq.{getD-set-same, getD-set-other}
 use native.Mathlib.Omega.{arith}
 use borrow.Author.Tests.{eqb-true, eqb-false, ne-eqb, ltb-true, ltb-false, leb-true, leb-false}
 use Rattle.record.specs.Choose.{if, both}
-use Rattle.meaning.specs.Meaning.{Bags, matchOf, comparisonOf, is}
+use Rattle.meaning.specs.Meaning.{Bags, matchOf, comparisonOf}
 use Rattle.layout.specs.declared.Head.{Head}
 use Rattle.layout.specs.declared.State.{State}
 use Rattle.layout.specs.declared.Frame.{Frame}

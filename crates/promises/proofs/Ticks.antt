@@ -11,7 +11,7 @@ use Rattle.record.specs.Choose.{if, both}
 use Rattle.record.specs.Refusals.{noRoom, badRun}
 use Rattle.record.proofs.Choose.{both-parts}
 use Rattle.meaning.specs.Reading.{bagsOf}
-use Rattle.meaning.specs.declared.Decision.{Decision}
+use Rattle.meaning.specs.declared.Verdict.{Verdict}
 use Rattle.judge.specs.Request.{judgeRequestOf}
 use Rattle.judge.specs.declared.JudgedRequest.{JudgedRequest}
 use Rattle.judge.specs.declared.JudgedRequest.the-variants as judged
@@ -177,21 +177,21 @@ unfolding ranOf
 over-answers p q s b out w e = tick-run p q s b out w ∙ rw (finished-stays p (bagsOf q) b s e, e) refl
 
 -- where an answer is finished, the state is over and says so
-module _ (s : State) (n : ℕ) (out : List ℕ) (d : Decision) (count : ℕ) where
-  finished-over : (over : Bool) → answered over s n out .tick .answer ≡ Finished d count → over ≡ true
+module _ (s : State) (n : ℕ) (out : List ℕ) (v : Verdict) (count : ℕ) where
+  finished-over : (over : Bool) → answered over s n out .tick .answer ≡ Finished v count → over ≡ true
   unfolding answered
   finished-over true e = refl
   finished-over false e = let z : _≡_ {A = ℕ} 0 1 = cc in absurd (omega arith)
 
-  finished-says : answered true s n out .tick .answer ≡ Finished d count
-      → (unpackOf (s .head) .reg ≡ d) × (countOf s ≡ count)
+  finished-says : answered true s n out .tick .answer ≡ Finished v count
+      → (unpackOf (s .head) .reg ≡ v) × (countOf s ≡ count)
   unfolding answered
-  finished-says e = (ap decision e, ap number e)
+  finished-says e = (ap verdict e, ap number e)
     where
-      decision : Answer → Decision
-      decision Running = d
-      decision (Finished x c) = x
-      decision (Refused r) = d
+      verdict : Answer → Verdict
+      verdict Running = v
+      verdict (Finished x c) = x
+      verdict (Refused r) = v
 
       number : Answer → ℕ
       number Running = 0
@@ -200,13 +200,13 @@ module _ (s : State) (n : ℕ) (out : List ℕ) (d : Decision) (count : ℕ) whe
 
 pub answers-again : AnswersAgain
 unfolding answered
-answers-again p q s b out d count e =
+answers-again p q s b out v count e =
     let n : NotRefused (tickOf p q s b out .tick .answer) = rw e tt in
     let r : Ran = runOf p (bagsOf q) b s in
     let a = run-answers p q s b out n in
-    let f : answered (isOver (r .state)) (r .state) (r .steps) out .tick .answer ≡ Finished d count = sym (ap (λ (t : Ticked). t .tick .answer) a) ∙ e in
-    let o : isOver (r .state) ≡ true = finished-over (r .state) (r .steps) out d count (isOver (r .state)) f in
-    let c = finished-says (r .state) (r .steps) out d count (rw o at f) in
+    let f : answered (isOver (r .state)) (r .state) (r .steps) out .tick .answer ≡ Finished v count = sym (ap (λ (t : Ticked). t .tick .answer) a) ∙ e in
+    let o : isOver (r .state) ≡ true = finished-over (r .state) (r .steps) out v count (isOver (r .state)) f in
+    let c = finished-says (r .state) (r .steps) out v count (rw o at f) in
     let st : tickOf p q s b out .tick .state ≡ r .state = ap state-of a ∙ answered-state (r .state) (r .steps) out (isOver (r .state)) in
     let w = was-run p q s b out n .0 in
     let k = admit-parts (length p) (s .head) true (sym (w .layout)) refl in

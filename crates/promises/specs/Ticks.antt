@@ -8,7 +8,7 @@ use lib.ListN.{length, take, replicate}
 use Rattle.record.specs.Choose.{if, either}
 use Rattle.record.specs.Refusals.{badRun}
 use Rattle.meaning.specs.Reading.{bagsOf}
-use Rattle.meaning.specs.declared.Decision.{Decision}
+use Rattle.meaning.specs.declared.Verdict.{Verdict}
 use Rattle.judge.specs.Request.{judgeRequestOf}
 use Rattle.judge.specs.declared.JudgedRequest.the-variants as judged
 use Rattle.layout.specs.declared.Head.{Head}
@@ -43,7 +43,7 @@ TicksAre = (p q : List ℕ) (s : State) (budget : ℕ) (out : List ℕ) → Soun
 -- a tick that is not refused takes exactly the smaller of its budget and the steps left, and reports that number
 abbrev pub NotRefused : Answer → Type 0
 NotRefused Running = Unit
-NotRefused (Finished d count) = Unit
+NotRefused (Finished v count) = Unit
 NotRefused (Refused r) = ⊥
 
 abbrev pub TakesTheSmaller : Type 0
@@ -52,8 +52,8 @@ TakesTheSmaller =
     → (tickOf p q s budget out .tick .steps ≡ min budget (stepsLeft p (bagsOf q) s))
     × (tickOf p q s budget out .tick .state ≡ afterSteps p (bagsOf q) (min budget (stepsLeft p (bagsOf q) s)) s)
 
--- its answer is read off the first number that it leaves: running, or finished, with which decision and how many obligations; these are the first places, in
--- order, and the output gets them
+-- its answer is read off the first number that it leaves: running, or finished, with which decision and code and how many obligations; these are the first
+-- places, in order, and the output gets them
 abbrev pub answerBy : Head → Answer
 answerBy h = if (h .over) (Finished (h .reg) (countBy (h .reg) h)) Running
 
@@ -73,18 +73,18 @@ RefusedStays =
     → (tickOf p q s budget out .tick .steps ≡ 0) × (tickOf p q s budget out .tick .state ≡ s) × (tickOf p q s budget out .out ≡ out)
 
 -- a finished run answers the same again with 0 steps, whatever budget and request, and leaves the same obligations in any output with room
-abbrev pub again : State → Decision → ℕ → List ℕ → Ticked
-again s d count out = record {
-  tick = record { state = s; steps = 0; answer = Finished d count };
+abbrev pub again : State → Verdict → ℕ → List ℕ → Ticked
+again s v count out = record {
+  tick = record { state = s; steps = 0; answer = Finished v count };
   out = firstPlaces s ++ replicate (length out - count) 0;
 }
 
 abbrev pub AnswersAgain : Type 0
 AnswersAgain =
-    (p q : List ℕ) (s : State) (budget : ℕ) (out : List ℕ) (d : Decision) (count : ℕ) → tickOf p q s budget out .tick .answer ≡ Finished d count
+    (p q : List ℕ) (s : State) (budget : ℕ) (out : List ℕ) (v : Verdict) (count : ℕ) → tickOf p q s budget out .tick .answer ≡ Finished v count
     → (tickOf p q s budget out .out ≡ firstPlaces (tickOf p q s budget out .tick .state) ++ replicate (length out - count) 0)
     × ((r : List ℕ) (m more : ℕ) (lent : List ℕ) → judgeRequestOf r ≡ judged.Accepted m → roomP ≤ length lent
-    → tickOf p r (tickOf p q s budget out .tick .state) more lent ≡ again (tickOf p q s budget out .tick .state) d count lent)
+    → tickOf p r (tickOf p q s budget out .tick .state) more lent ≡ again (tickOf p q s budget out .tick .state) v count lent)
 
 -- a tick keeps how many numbers a state has
 abbrev pub TicksStaySized : Type 0

@@ -1,5 +1,5 @@
--- The one and only value of a key, by its bag. Assumes nothing.
-use mathlib.Core.Path.{_≡_, refl, sym, ap, _∙_, subst}
+-- The one and only value of a key is a number. Assumes nothing.
+use mathlib.Core.Path.{_≡_, sym, _∙_, subst}
 use mathlib.Core.Bool.{Bool, true, false}
 use mathlib.Core.List.{List, [], _∷_, _++_}
 use Prim.Native.Nat.{ℕ, zero, suc, _+_, _*_}
@@ -7,16 +7,15 @@ use lib.Dec.{T}
 use Rattle.record.specs.Choose.{if}
 use Rattle.record.specs.Bytes.{size, bigOf}
 use Rattle.value.specs.declared.Value.{Value}
-use Rattle.sums.specs.Sums.{isNumber, bytesOf, inBytes}
-use Rattle.sums.specs.declared.Word.the-variants.{Holds, Nothing}
+use Rattle.sums.specs.Sums.{isNumber}
+use Rattle.sums.specs.declared.Worth.{Worth}
+use Rattle.sums.specs.declared.Worth.the-variants.{Is}
 use Rattle.sums.proofs.Numbers.{value-number}
 use Rattle.meaning.specs.Meaning.{theOnly}
 use Rattle.meaning.specs.Numbers.{valueUnder}
 use Rattle.meaning.specs.Policy.{Key}
 use Rattle.meaning.specs.Reading.{keyIn, sameKey, bagFrom, bagsOf}
-use Rattle.request.specs.Bag.{entriesOf, bagBy}
-use Rattle.request.specs.declared.Bag.{Bag}
-use Rattle.request.specs.declared.Bag.the-variants.{Empty, One, Several}
+use Rattle.request.specs.Bag.{entriesOf}
 
 -- what a bag holds are numbers
 Numbers : List Value → Type 0
@@ -32,36 +31,11 @@ bag-numbers q key (suc left) k = go (sameKey (keyIn q k) key) (bag-numbers q key
     go true rest = (value-number (key .type) (bigOf q (k * size + 8) 8), rest)
     go false rest = rest
 
-module _ (q : List ℕ) (key : Key) {b : Bag} (e : b ≡ bagBy (bagsOf q key)) where
-  pub one-number : {v : Value} → b ≡ One v → T (isNumber v)
-  unfolding bagsOf Numbers
-  one-number {v} f = go (bagFrom q key (entriesOf q) 0) (bag-numbers q key (entriesOf q) 0) (sym e ∙ f)
-    where
-      go : (vs : List Value) → Numbers vs → bagBy vs ≡ One v → T (isNumber v)
-      go [] h z = let x : true ≡ isNumber v = cc in subst T x tt
-      go (w ∷ []) h z = let x : w ≡ v = cc in subst (λ (u : Value). T (isNumber u)) x (h .0)
-      go (w ∷ u ∷ vs) h z = let x : true ≡ isNumber v = cc in subst T x tt
-
-  pub only-one : {v : Value} {n : ℕ} → b ≡ One v → n ≡ bytesOf v → Holds n ≡ inBytes (theOnly (bagsOf q key))
-  only-one {v} f en = ap Holds en ∙ go (bagsOf q key) (sym e ∙ f)
-    where
-      go : (vs : List Value) → bagBy vs ≡ One v → Holds (bytesOf v) ≡ inBytes (theOnly vs)
-      go [] z = cc
-      go (w ∷ []) z = let x : w ≡ v = cc in rw x
-      go (w ∷ u ∷ vs) z = cc
-
-  pub only-empty : b ≡ Empty → Nothing ≡ inBytes (theOnly (bagsOf q key))
-  only-empty f = go (bagsOf q key) (sym e ∙ f)
-    where
-      go : (vs : List Value) → bagBy vs ≡ Empty → Nothing ≡ inBytes (theOnly vs)
-      go [] z = refl
-      go (v ∷ []) z = cc
-      go (v ∷ w ∷ vs) z = refl
-
-  pub only-several : b ≡ Several → Nothing ≡ inBytes (theOnly (bagsOf q key))
-  only-several f = go (bagsOf q key) (sym e ∙ f)
-    where
-      go : (vs : List Value) → bagBy vs ≡ Several → Nothing ≡ inBytes (theOnly vs)
-      go [] z = refl
-      go (v ∷ []) z = cc
-      go (v ∷ w ∷ vs) z = refl
+pub one-number : (q : List ℕ) (key : Key) {b : Worth} {v : Value} → b ≡ theOnly (bagsOf q key) → b ≡ Is v → T (isNumber v)
+unfolding bagsOf Numbers
+one-number q key {v = v} e f = go (bagFrom q key (entriesOf q) 0) (bag-numbers q key (entriesOf q) 0) (sym e ∙ f)
+  where
+    go : (vs : List Value) → Numbers vs → theOnly vs ≡ Is v → T (isNumber v)
+    go [] h z = let x : true ≡ isNumber v = cc in subst T x tt
+    go (w ∷ []) h z = let x : w ≡ v = cc in subst (λ (u : Value). T (isNumber u)) x (h .0)
+    go (w ∷ u ∷ vs) h z = let x : true ≡ isNumber v = cc in subst T x tt

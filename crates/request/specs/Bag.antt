@@ -1,14 +1,11 @@
 -- How the bag of a key is found in a request: entry after entry. Assumes nothing.
 use Prim.Native.Nat.{ℕ, zero, suc, _+_, _-_, _/_}
-use mathlib.Core.List.{List, [], _∷_}
+use mathlib.Core.List.{List}
 use lib.ListN.{length}
 use Rattle.record.specs.Choose.{if}
 use Rattle.record.specs.Bytes.{size}
-use Rattle.value.specs.declared.Value.{Value}
 use Rattle.meaning.specs.Policy.{Key}
 use Rattle.meaning.specs.Reading.{keyIn, sameKey}
-use Rattle.request.specs.declared.Bag.{Bag}
-use Rattle.request.specs.declared.Bag.the-variants.{Empty, One, Several}
 
 -- the entries of a request
 abbrev pub entriesOf : List ℕ → ℕ
@@ -22,9 +19,3 @@ firstOf q key (suc left) k = if (sameKey (keyIn q k) key) k (firstOf q key left 
 -- the next entry of the key, from k on
 abbrev pub nextOf : List ℕ → Key → ℕ → ℕ
 nextOf q key k = firstOf q key (entriesOf q - k) k
-
--- what a bag has for one who wants one value: none, one, or several
-abbrev pub bagBy : List Value → Bag
-bagBy [] = Empty
-bagBy (v ∷ []) = One v
-bagBy (v ∷ w ∷ vs) = Several

@@ -10,7 +10,7 @@ use borrow.Rule.Slice.PartMut.{putMid}
 use Rattle.record.specs.Refusals.{noRoom, refusalNumber}
 use Rattle.record.specs.declared.Refusal.{Refusal}
 use Rattle.record.proofs.Filling.{Filled, copy-done}
-use Rattle.meaning.specs.declared.Decision.{Decision}
+use Rattle.meaning.specs.declared.Verdict.{Verdict}
 use Rattle.layout.specs.declared.State.{State}
 use Rattle.programme.specs.Step.{stateOf, freshOf}
 use Rattle.run.specs.Tick.{tickOf}
@@ -101,7 +101,7 @@ module _ (p q ns ps : List ℕ) (b : ℕ) (out : List ℕ) {s : State} {t : Tick
   pub running-fits : t .answer ≡ Running → (33 ≤ length ns) × (roomP ≤ length ps) × (t .steps ≤ 8008)
   running-fits e = let w : Small (stateIn ns ps) Running = rw e at (small .1) in let l = long-enough ns ps w in (l .0, l .1, small .0)
 
-  pub finished-fits : {d : Decision} {n : ℕ} → t .answer ≡ Finished d n → (33 ≤ length ns) × (roomP ≤ length ps) × (n ≤ roomP) × (t .steps ≤ 8008)
+  pub finished-fits : {d : Verdict} {n : ℕ} → t .answer ≡ Finished d n → (33 ≤ length ns) × (roomP ≤ length ps) × (n ≤ roomP) × (t .steps ≤ 8008)
   finished-fits {d} {n} e = let w : Small (stateIn ns ps) (Finished d n) = rw e at (small .1) in let l = long-enough ns ps (w .0) in (l .0, l .1, w .1, small .0)
 
   module _ {o : List ℕ} (left : o ≡ tickOf p q s b out .out) where
@@ -121,7 +121,7 @@ module _ (p q ns ps : List ℕ) (b : ℕ) (out : List ℕ) {s : State} {t : Tick
       unfolding tickCall
       tick-running e number = (rw (← is-tick, e, number, numbers, places) refl, is-out)
 
-      pub tick-finished : {d : Decision} {n x : ℕ} → t .answer ≡ Finished d n → x ≡ finishedNumber d n (t .steps) → TickIs x ms rs
+      pub tick-finished : {d : Verdict} {n x : ℕ} → t .answer ≡ Finished d n → x ≡ finishedNumber d n (t .steps) → TickIs x ms rs
       unfolding tickCall
       tick-finished e number = (rw (← is-tick, e, number, numbers, places) refl, is-out)
 

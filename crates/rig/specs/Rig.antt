@@ -7,8 +7,9 @@ use lib.ListN.{length, take, drop, getD, replicate}
 use Rattle.record.specs.Choose.{if, either}
 use Rattle.record.specs.Refusals.{noRoom, refusalNumber}
 use Rattle.record.specs.declared.Refusal.{Refusal}
-use Rattle.meaning.specs.Numbers.{numberOf}
-use Rattle.meaning.specs.declared.Decision.{Decision}
+use Rattle.meaning.specs.Meaning.{decisionIn}
+use Rattle.meaning.specs.Numbers.{numberOf, codeNumber}
+use Rattle.meaning.specs.declared.Verdict.{Verdict}
 use Rattle.layout.specs.declared.State.{State}
 use Rattle.programme.specs.Step.{stateOf, freshOf}
 use Rattle.run.specs.Tick.{Ticked, tickOf}
@@ -61,12 +62,13 @@ put number s numbers places = call number (over (numbersOf s) numbers) (over (s 
 unfoldable pub freshCall : List ℕ → List ℕ → Call
 freshCall numbers places = if (tooShort numbers places) (refused noRoom numbers places) (put 0 freshOf numbers places)
 
--- the steps from bit 32 on; the count of obligations from bit 8 on; in the low byte 0 for running, and the decision's number for finished
+-- the steps from bit 32 on; the code in bits 24 to 31, the count of obligations from bit 8 on; in the low byte 0 for running, and the decision's number for
+-- finished
 abbrev pub runningNumber : ℕ → ℕ
 runningNumber steps = 4294967296 * steps
 
-abbrev pub finishedNumber : Decision → ℕ → ℕ → ℕ
-finishedNumber d count steps = numberOf d + 256 * count + 4294967296 * steps
+abbrev pub finishedNumber : Verdict → ℕ → ℕ → ℕ
+finishedNumber v count steps = numberOf (decisionIn v) + 256 * count + 16777216 * codeNumber v + 4294967296 * steps
 
 -- a tick of the state that lent numbers and places hold
 unfoldable pub tickIn : List ℕ → List ℕ → List ℕ → List ℕ → ℕ → List ℕ → Ticked

@@ -1,7 +1,7 @@
 // The calls of the rig's loop. They take apart what is lent, call the functions of other crates, and put together what those give.
 use layout::PLACES;
 use layout::State;
-use meaning::Decision;
+use meaning::Verdict;
 use run::kinds::Answer;
 use translator::Translated;
 ghost use mathlib.Core.Path.{_≡_};
@@ -120,7 +120,7 @@ pub extern "C" fn bachumoi_fresh(numbers: &mut [u64], places: &mut [u16]) -> u64
     0
 }
 
-// A tick's number: running, with the steps that it took; or finished, with the decision and how many obligations.
+// A tick's number: running, with the steps that it took; or finished, with the decision, its code and how many obligations.
 fn running(steps: u64) -> u64
     requires { ⌜ steps ≤ 8008 ⌝ }
     ensures { λ r. ⌜ r ≡ runningNumber steps ⌝ }
@@ -128,11 +128,12 @@ fn running(steps: u64) -> u64
     4294967296 * steps
 }
 
-fn finished(decision: Decision, count: u64, steps: u64) -> u64
+fn finished(v: Verdict, count: u64, steps: u64) -> u64
     requires { ⌜ (count ≤ roomP) × (steps ≤ 8008) ⌝ }
-    ensures { λ r. ⌜ r ≡ finishedNumber decision count steps ⌝ }
+    ensures { λ r. ⌜ r ≡ finishedNumber v count steps ⌝ }
 {
-    meaning::number(decision) as u64 + 256 * count + 4294967296 * steps
+    let number = meaning::number(meaning::decision_in(v)) as u64;
+    number + 256 * count + 16777216 * meaning::code(v) as u64 + 4294967296 * steps
 }
 
 // Takes one tick of the state in lent numbers and places: its answer as one number. A refusal leaves all that is lent as it was.
@@ -159,9 +160,9 @@ pub extern "C" fn bachumoi_tick(
             put_state(after, numbers, places);
             running(ticked.steps)
         }
-        Answer::Finished(decision, count) => {
+        Answer::Finished(v, count) => {
             put_state(after, numbers, places);
-            finished(decision, count, ticked.steps)
+            finished(v, count, ticked.steps)
         }
     }
 }

@@ -11,22 +11,24 @@ use Rattle.record.specs.Bytes.{byteOf}
 use Rattle.record.specs.Forest.{Forest, none, node, spanIn, forest}
 use Rattle.record.proofs.Forests.{span-pos, span-le, forest-none, forest-step, forest-more}
 use Rattle.value.specs.Value.{functionOf}
+use Rattle.sums.specs.declared.Status.{Status}
 use Rattle.meaning.specs.Logic.{andAll, orAll, notOf}
-use Rattle.meaning.specs.Policy.{compares, weighs, all, OverRules, rulesDeny, rulesPermit, rulesFirst}
-use Rattle.meaning.specs.Meaning.{Bags, matchOf, comparisonOf, conditionOf, conditionsOf, each, conjunctionOf, sectionOf, sectionsOf, targetOf, under, decisionOf, whenOf, ruleOf, combine, overRules, ruleChild, ruleChildren}
+use Rattle.meaning.specs.Policy.{compares, weighs, OverRules, rulesDeny, rulesPermit, rulesFirst}
+use Rattle.meaning.specs.Meaning.{Bags, matchOf, comparisonOf, conditionOf, conditionsOf, each, conjunctionOf, sectionOf, sectionsOf, targetOf, under, effected, whenOf, ruleOf, isOnly, verdictOf, overRules, ruleChild, ruleChildren}
 use Rattle.meaning.specs.Reading.{choiceAt, matchAt, comparisonAt, rowOf, childrenAt, conjunctionAt, sectionAt, targetIn, exprsIn, weighsAt, conditionAt, conditionFrom, conditionsIn, whenIn, effectOf, ruleAt, rulesIn}
 use Rattle.meaning.specs.declared.Test.{Test}
 use Rattle.meaning.specs.declared.Truth.{Truth}
 use Rattle.meaning.specs.declared.Truth.the-variants.{True, False, Unknown}
 use Rattle.meaning.specs.declared.Effect.{Effect}
-use Rattle.meaning.specs.declared.Decision.{Decision}
-use Rattle.meaning.specs.declared.Decision.the-variants.{NotApplicable, Indeterminate}
+use Rattle.meaning.specs.declared.Verdict.{Verdict}
+use Rattle.meaning.specs.declared.Verdict.the-variants.{NotApplicable, Indeterminate}
 use Rattle.meaning.specs.declared.Algorithm.{Algorithm}
 use Rattle.weigh.specs.Two.{secondIn}
 use Rattle.weigh.proofs.Laws.{few}
-use Rattle.algorithm.specs.Fold.{start, absorb, settled, result, isOnly}
-use Rattle.algorithm.specs.declared.Acc.{Acc}
-use Rattle.algorithm.proofs.Walk.{takes, walk, result-right}
+use Rattle.algorithm.specs.Fold.{settled}
+use Rattle.algorithm.specs.Tally.{fresh, tallied, verdictSoFar}
+use Rattle.algorithm.specs.declared.tally.Tally.{Tally}
+use Rattle.algorithm.proofs.Causes.{tallies, walks, verdict-right, walks-more}
 
 -- the truths of the records of a forest, each read with its children
 unfoldable pub truths : {A : Type 0} → (A → Truth) → (ℕ → Forest → A) → Forest → List Truth
@@ -180,30 +182,30 @@ module _ (b : List ℕ) (g : Bags) (i : ℕ) (kids : Forest) {x : Truth} (e : x 
   unfolding ruleOf ruleAt
   rule-no q = rw (← e, q)
 
-  pub rule-lost : x ≡ Unknown → Indeterminate ≡ ruleOf g (ruleAt b i kids)
+  pub rule-lost : {why : Status} → x ≡ Unknown why → Indeterminate why ≡ ruleOf g (ruleAt b i kids)
   unfolding ruleOf ruleAt
   rule-lost q = rw (← e, q)
 
-  pub rule-yes : {c : ℕ} {f : Effect} {v : Truth} {o d : Decision} → x ≡ True → c ≡ byteOf b i 1 → f ≡ effectOf c → v ≡ whenOf g (whenIn b kids)
-      → o ≡ decisionOf f → d ≡ under v o → d ≡ ruleOf g (ruleAt b i kids)
+  pub rule-yes : {c : ℕ} {f : Effect} {t : Truth} {o v : Verdict} → x ≡ True → c ≡ byteOf b i 1 → f ≡ effectOf c → t ≡ whenOf g (whenIn b kids)
+      → o ≡ effected f → v ≡ under t o → v ≡ ruleOf g (ruleAt b i kids)
   unfolding ruleOf ruleAt
-  rule-yes q ec ef ev eo ed = rw (← e, q, ← ec, ← ef, ← ev, ← eo) ed
+  rule-yes q ec ef et eo ev = rw (← e, q, ← ec, ← ef, ← et, ← eo) ev
 
--- what an algorithm over rules that has acc so far is still to say of the rules in a forest
-unfoldable pub ruled : List ℕ → Bags → Algorithm → Acc → Forest → Decision
-ruled b g a acc rest = result a (walk a acc (ruleChildren g (rulesIn b rest)))
+-- what an algorithm over rules that has k so far is still to say of the rules in a forest
+unfoldable pub ruled : List ℕ → Bags → Algorithm → Tally → Forest → Verdict
+ruled b g a k rest = verdictSoFar a (walks a k (ruleChildren g (rulesIn b rest)))
 
-pub rules-all : (b : List ℕ) (g : Bags) (f : Forest) (a : Algorithm) {acc : Acc} (r : OverRules) → a ≡ overRules r → acc ≡ start a
-    → ruled b g a acc f ≡ combine (overRules r) (ruleChildren g (rulesIn b f))
+pub rules-all : (b : List ℕ) (g : Bags) (f : Forest) (a : Algorithm) {k : Tally} (r : OverRules) → a ≡ overRules r → k ≡ fresh a
+    → ruled b g a k f ≡ verdictOf (overRules r) (ruleChildren g (rulesIn b f))
 unfolding ruled
-rules-all b g f a r er e = rw (e, ← er) (result-right a (ruleChildren g (rulesIn b f)))
+rules-all b g f a r er e = rw (e, ← er) (verdict-right a (ruleChildren g (rulesIn b f)))
 
-pub rules-end : (b : List ℕ) (g : Bags) (i left : ℕ) (a : Algorithm) (acc : Acc) {d w : Decision} → left ≤ 0 → d ≡ result a acc
-    → ruled b g a acc (forest b i left) ≡ w → d ≡ w
-unfolding ruled walk ruleChildren rulesIn
-rules-end b g i left a acc h ed p = ed ∙ (rw (forest-none b i left h) at p)
+pub rules-end : (b : List ℕ) (g : Bags) (i left : ℕ) (a : Algorithm) (k : Tally) {v w : Verdict} → left ≤ 0 → v ≡ verdictSoFar a k
+    → ruled b g a k (forest b i left) ≡ w → v ≡ w
+unfolding ruled walks ruleChildren rulesIn
+rules-end b g i left a k h ev p = ev ∙ (rw (forest-none b i left h) at p)
 
--- over rules no algorithm is only-one-applicable, so a rule is taken in by its decision
+-- over rules no algorithm is only-one-applicable, so a rule is taken in by its verdict
 pub not-only : (a : Algorithm) (r : OverRules) → a ≡ overRules r → isOnly a ≡ false
 not-only a r e = rw e (each-is r)
   where
@@ -212,25 +214,25 @@ not-only a r e = rw e (each-is r)
     each-is rulesPermit = refl
     each-is rulesFirst = refl
 
-takes-rule : (b : List ℕ) (g : Bags) (i : ℕ) (kids : Forest) (a : Algorithm) (acc : Acc) {c : ℕ} {f : Effect} {d : Decision} {next : Acc}
-    → isOnly a ≡ false → c ≡ byteOf b i 1 → f ≡ effectOf c → d ≡ ruleOf g (ruleAt b i kids) → next ≡ absorb a acc f d
-    → takes a acc (ruleChild g (ruleAt b i kids)) ≡ next
+takes-rule : (b : List ℕ) (g : Bags) (i : ℕ) (kids : Forest) (a : Algorithm) (k : Tally) {c : ℕ} {f : Effect} {v : Verdict} {next : Tally}
+    → isOnly a ≡ false → c ≡ byteOf b i 1 → f ≡ effectOf c → v ≡ ruleOf g (ruleAt b i kids) → next ≡ tallied a k f v
+    → tallies a k (ruleChild g (ruleAt b i kids)) ≡ next
 unfolding ruleChild ruleAt
-takes-rule b g i kids a acc o ec ef ed en = rw (o, en, ed, ef, ec)
+takes-rule b g i kids a k o ec ef ev en = rw (o, en, ev, ef, ec, o)
 
-module _ (b : List ℕ) (g : Bags) (i left : ℕ) (a : Algorithm) (acc : Acc) {s k : ℕ} {w : Decision}
-    (some : 0 < left) (e : s ≡ spanIn b i left) (ek : k ≡ byteOf b i 0) (p : ruled b g a acc (forest b i left) ≡ w) where
-  pub rules-skip : (k ≡ 3 → ⊥) → ruled b g a acc (forest b (i + s) (left - s)) ≡ w
+module _ (b : List ℕ) (g : Bags) (i left : ℕ) (a : Algorithm) (k : Tally) {s kind : ℕ} {w : Verdict}
+    (some : 0 < left) (e : s ≡ spanIn b i left) (ek : kind ≡ byteOf b i 0) (p : ruled b g a k (forest b i left) ≡ w) where
+  pub rules-skip : (kind ≡ 3 → ⊥) → ruled b g a k (forest b (i + s) (left - s)) ≡ w
   unfolding ruled rulesIn
-  rules-skip q = rw (forest-more b i left some e, ← ek, ne-eqb k 3 q) at p
+  rules-skip q = rw (forest-more b i left some e, ← ek, ne-eqb kind 3 q) at p
 
-  module _ {c : ℕ} {f : Effect} {d : Decision} {next : Acc} {t : Bool} (q : k ≡ 3) (o : isOnly a ≡ false) (ec : c ≡ byteOf b i 1) (ef : f ≡ effectOf c)
-      (ed : d ≡ ruleOf g (ruleAt b i (forest b (i + 1) (s - 1)))) (en : next ≡ absorb a acc f d) (et : t ≡ settled a next) where
-    more : result a (if t next (walk a next (ruleChildren g (rulesIn b (forest b (i + s) (left - s)))))) ≡ w
-    unfolding ruled rulesIn ruleChildren walk
-    more = rw et (rw (forest-more b i left some e, ← ek, q, takes-rule b g i (forest b (i + 1) (s - 1)) a acc o ec ef ed en) at p)
+  module _ {c : ℕ} {f : Effect} {v : Verdict} {next : Tally} {t : Bool} (q : kind ≡ 3) (o : isOnly a ≡ false) (ec : c ≡ byteOf b i 1) (ef : f ≡ effectOf c)
+      (ev : v ≡ ruleOf g (ruleAt b i (forest b (i + 1) (s - 1)))) (en : next ≡ tallied a k f v) (et : t ≡ settled a (next .acc)) where
+    more : verdictSoFar a (if t next (walks a next (ruleChildren g (rulesIn b (forest b (i + s) (left - s)))))) ≡ w
+    unfolding ruled rulesIn ruleChildren
+    more = rw et (rw (forest-more b i left some e, ← ek, q, walks-more a k _ _ (takes-rule b g i (forest b (i + 1) (s - 1)) a k o ec ef ev en)) at p)
 
-    pub rules-stop : {x : Decision} → t ≡ true → x ≡ result a next → x ≡ w
+    pub rules-stop : {x : Verdict} → t ≡ true → x ≡ verdictSoFar a next → x ≡ w
     rules-stop z ex = ex ∙ (rw z at more)
 
     pub rules-turn : t ≡ false → ruled b g a next (forest b (i + s) (left - s)) ≡ w

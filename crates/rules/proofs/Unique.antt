@@ -31,6 +31,6 @@ pub one-condition : (κs : Lfts 2) (a : Dens κs condition-kinds.ps) (x y : resT
     → condition-reads.Post κs a x s → condition-reads.Post κs a y t → x ≡ y
 one-condition κs a x y s t p q = p ∙ sym q
 
-pub one-decision : (κs : Lfts 2) (a : Dens κs rules-kinds.ps) (x y : resT rules-kinds.r κs .Denot) (s t : AtExit (endedOf 2 rules-kinds.ps rules-kinds.r) κs)
+pub one-verdict : (κs : Lfts 2) (a : Dens κs rules-kinds.ps) (x y : resT rules-kinds.r κs .Denot) (s t : AtExit (endedOf 2 rules-kinds.ps rules-kinds.r) κs)
     → rules-reads.Post κs a x s → rules-reads.Post κs a y t → x ≡ y
-one-decision κs a x y s t p q = p ∙ sym q
+one-verdict κs a x y s t p q = p ∙ sym q

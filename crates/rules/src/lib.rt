@@ -1,9 +1,8 @@
 // Targets, conditions and rules, decided on the records themselves. `s` is a record's span; `count` records from `from` on are a record's children.
-use meaning::Algorithm;
-use meaning::Decision;
 use meaning::Effect;
 use meaning::Test;
 use meaning::Truth;
+use meaning::Verdict;
 ghost use mathlib.Core.Path.{_≡_};
 ghost use Prim.Native.Nat.{_+_, _*_, _-_, _^_, _<_, _≤_};
 ghost use lib.Dec.{eqb};
@@ -12,7 +11,7 @@ ghost use Rattle.record.specs.Bytes.{size};
 ghost use Rattle.record.specs.Choose.{if};
 ghost use Rattle.record.specs.Forest.{forest};
 ghost use Rattle.meaning.specs.Logic.{isTrue, isFalse, andOf, orOf};
-ghost use Rattle.meaning.specs.Meaning.{conjunctionOf, sectionOf, targetOf, comparisonOf, conditionOf, whenOf, ruleOf, overRules, combine, ruleChildren};
+ghost use Rattle.meaning.specs.Meaning.{conjunctionOf, sectionOf, targetOf, comparisonOf, conditionOf, whenOf, ruleOf, overRules, verdictOf, ruleChildren};
 ghost use Rattle.meaning.specs.Reading.{choiceAt, testAt, matchAt, comparisonAt, conjunctionAt, sectionAt, targetIn, conditionFrom, whenIn, effectOf, ruleAt, rulesIn, rulesBy, bagsOf};
 
 // Record i as a test by function f.
@@ -124,10 +123,10 @@ pub fn target(book: &[u8], request: &[u8], from: usize, count: usize) -> Truth
         }
         let s = record::span_in(book, i, left);
         let t = section(book, request, i, s);
-        if let Truth::Unknown = t {
-            return Truth::Unknown;
-        }
         acc = meaning::target3(acc, t);
+        if let Truth::Unknown(_) = acc {
+            return acc;
+        }
         i += s;
         left -= s;
     }
@@ -169,7 +168,7 @@ fn is_sure(all: bool, t: Truth) -> bool
     match t {
         Truth::True => !all,
         Truth::False => all,
-        Truth::Unknown => false,
+        Truth::Unknown(_) => false,
     }
 }
 
@@ -255,30 +254,30 @@ fn effect_of(choice: usize) -> Effect
 }
 
 // The rule at record i.
-fn rule(book: &[u8], request: &[u8], i: usize, s: usize) -> Decision
+fn rule(book: &[u8], request: &[u8], i: usize, s: usize) -> Verdict
     requires { ⌜ (0 < s) × ((i + s) * size ≤ length (now book)) ⌝ }
     ensures { λ r. ⌜ r ≡ ruleOf (bagsOf (now (request .entry))) (ruleAt (now (book .entry)) i (forest (now (book .entry)) (i + 1) (s - 1))) ⌝ }
 {
     let t = target(book, request, i + 1, s - 1);
     match t {
-        Truth::False => Decision::NotApplicable,
-        Truth::Unknown => Decision::Indeterminate,
+        Truth::False => Verdict::NotApplicable,
+        Truth::Unknown(why) => Verdict::Indeterminate(why),
         Truth::True => {
             let e = effect_of(record::byte(book, i, 1));
-            meaning::under(when(book, request, i + 1, s - 1), meaning::decision_of(e))
+            meaning::under(when(book, request, i + 1, s - 1), meaning::effected(e))
         }
     }
 }
 
 // What the rules among these children decide.
-pub fn rules(book: &[u8], request: &[u8], from: usize, count: usize, choice: usize) -> Decision
+pub fn rules(book: &[u8], request: &[u8], from: usize, count: usize, choice: usize) -> Verdict
     requires { ⌜ (from + count) * size ≤ length (now book) ⌝ }
-    ensures { λ r. ⌜ r ≡ combine (overRules (rulesBy choice)) (ruleChildren (bagsOf (now (request .entry))) (rulesIn (now (book .entry)) (forest (now (book .entry)) from count))) ⌝ }
+    ensures { λ r. ⌜ r ≡ verdictOf (overRules (rulesBy choice)) (ruleChildren (bagsOf (now (request .entry))) (rulesIn (now (book .entry)) (forest (now (book .entry)) from count))) ⌝ }
 {
     let a = meaning::over_rules(choice);
     let mut i = from;
     let mut left = count;
-    let mut acc = algorithm::begin(a);
+    let mut k = algorithm::tally::begin(a);
     while 0 < left {
         let s = record::span_in(book, i, left);
         let kind = record::byte(book, i, 0);
@@ -288,13 +287,14 @@ pub fn rules(book: &[u8], request: &[u8], from: usize, count: usize, choice: usi
             continue;
         }
         let e = effect_of(record::byte(book, i, 1));
-        let d = rule(book, request, i, s);
-        acc = algorithm::take_in(a, acc, e, d);
+        let v = rule(book, request, i, s);
+        k = algorithm::tally::take_in(a, k, e, v);
+        let acc = k.acc;
         if algorithm::settles(a, acc) {
-            return algorithm::outcome(a, acc);
+            return algorithm::tally::verdict(a, k);
         }
         i += s;
         left -= s;
     }
-    algorithm::outcome(a, acc)
+    algorithm::tally::verdict(a, k)
 }

@@ -30,7 +30,7 @@ use Rattle.record.specs.Bytes.{mostRecords}
 -- an answer to a tick from s: only a state that the layout allows is run
 abbrev pub Small : State → Answer → Type 0
 Small s Running = allowed (s .head) ≡ true
-Small s (Finished d count) = (allowed (s .head) ≡ true) × (count ≤ roomP)
+Small s (Finished v count) = (allowed (s .head) ≡ true) × (count ≤ roomP)
 Small s (Refused r) = r .line ≤ mostRecords
 
 module _ (p : List ℕ) (g : Bags) (s : State) (b : ℕ) (out : List ℕ) where

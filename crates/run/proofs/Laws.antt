@@ -16,8 +16,8 @@ use Rattle.record.specs.declared.Refusal.{Refusal}
 use Rattle.record.proofs.Choose.{both-parts}
 use Rattle.meaning.specs.Meaning.{Bags}
 use Rattle.meaning.specs.Reading.{bagsOf}
-use Rattle.meaning.specs.declared.Decision.{Decision}
-use Rattle.meaning.specs.declared.Decision.the-variants.{Permit, Deny, NotApplicable, Indeterminate}
+use Rattle.meaning.specs.declared.Verdict.{Verdict}
+use Rattle.meaning.specs.declared.Verdict.the-variants.{Permit, Deny, NotApplicable, Indeterminate}
 use Rattle.judge.specs.Request.{judgeRequestOf}
 use Rattle.judge.specs.declared.JudgedRequest.{JudgedRequest}
 use Rattle.judge.specs.declared.JudgedRequest.the-variants as judged
@@ -136,11 +136,11 @@ module _ (n head : ℕ) where
   admit-long e = let z : 0 < n = omega arith in rw (lt-ltb _ _ z, lt-leb _ _ e) refl
 
   module _ (z : 0 < n) (l : n ≤ 8008) where
-    pub admit-high : 2305843009213693952 ≤ head → false ≡ admitted n head
+    pub admit-high : 4611686018427387904 ≤ head → false ≡ admitted n head
     unfolding admitted allowed
     admit-high e = rw (lt-ltb _ _ z, le-leb _ _ l, le-ltb _ _ e) refl
 
-    module _ (s : head < 2305843009213693952) (h : Head) (u : h ≡ unpackOf head) where
+    module _ (s : head < 4611686018427387904) (h : Head) (u : h ≡ unpackOf head) where
       pub admit-by : both (leb (h .depth) 16) (both (leb (h .nest) 14) (both (leb (h .permits) roomP) (leb (h .cut + h .denies) roomP))) ≡ admitted n head
       unfolding admitted allowed
       admit-by = rw (lt-ltb _ _ z, le-leb _ _ l, lt-ltb _ _ s, u) refl
@@ -225,8 +225,8 @@ count-small p g b s k r h x m z ran u c =
     let d : allowed (r .state .head) ≡ true = rw ran (runs-stay-allowed p g b s (w .0) (w .1)) in
     rw c (go (h .reg) (rw u (ranged (r .state .head) d)))
   where
-    go : (y : Decision) → Ranged h → countBy y h ≤ roomP
+    go : (y : Verdict) → Ranged h → countBy y h ≤ roomP
     go Permit l = l .permits
     go Deny l = let i = l .stacks in omega arith
     go NotApplicable l = omega arith
-    go Indeterminate l = omega arith
+    go (Indeterminate s) l = omega arith

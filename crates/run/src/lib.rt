@@ -3,13 +3,13 @@
 // The types stand apart, since a tick is both what is done and what it gives.
 pub mod kinds {
     use layout::State;
-    use meaning::Decision;
+    use meaning::Verdict;
     use record::Refusal;
 
-    // The answer says running, or finished, with which decision and how many obligations, or why the tick was refused.
+    // The answer says running, or finished, with which decision and code and how many obligations, or why the tick was refused.
     pub enum Answer {
         Running,
-        Finished(Decision, u64),
+        Finished(Verdict, u64),
         Refused(Refusal),
     }
 
@@ -35,7 +35,7 @@ use kinds::Tick;
 use layout::Head;
 use layout::PLACES;
 use layout::State;
-use meaning::Decision;
+use meaning::Verdict;
 use record::Refusal;
 ghost use mathlib.Core.Path.{_≡_};
 ghost use mathlib.Core.Bool.{true};
@@ -55,12 +55,12 @@ ghost use Rattle.layout.specs.Room.{roomP};
 // The most entries of a programme.
 const MOST: usize = 8008;
 
-// The state before the first step: all is zero, but a section without a conjunction is False (2^56).
+// The state before the first step: all is zero, but a section without a conjunction is False (2^57).
 pub fn fresh() -> State
     ensures { λ r. ⌜ r ≡ freshOf ⌝ }
 {
     State {
-        head: 72057594037927936,
+        head: 144115188075855872,
         frames: [0; 17],
         levels: [0; 15],
         places: [0; PLACES],
@@ -74,7 +74,7 @@ struct Ended {
     steps: u64,
 }
 
-// The first number after so many steps. Before the first it is the one given: a truth may stand there as 3, which would be put together as 2.
+// The first number after so many steps. Before the first it is the one given: the register may stand there as 5 to 7, which would be put together as 4.
 fn number(steps: u64, start: u64, h: Head) -> u64
     requires { ⌜ Held h ⌝ }
     ensures { λ r. ⌜ r ≡ numberAfter steps start h ⌝ }
@@ -157,7 +157,7 @@ fn run(programme: &[u64], request: &[u8], state: State, budget: u64) -> Ran
     }
 }
 
-// Whether the programme has an entry and not over 8,008, and the layout allows the first number (below 2^61, and four fields in their ranges).
+// Whether the programme has an entry and not over 8,008, and the layout allows the first number (below 2^62, and four fields in their ranges).
 fn admits(long: usize, head: u64) -> bool
     ensures { λ r. ⌜ r ≡ admitted long head ⌝ }
 {
@@ -167,7 +167,7 @@ fn admits(long: usize, head: u64) -> bool
     if MOST < long {
         return false;
     }
-    if 2305843009213693952 <= head {
+    if 4611686018427387904 <= head {
         return false;
     }
     let h = layout::unpack(head);
@@ -189,10 +189,10 @@ fn count(h: Head) -> u64
 {
     let reg = h.reg;
     match reg {
-        Decision::Permit => h.permits,
-        Decision::Deny => h.denies,
-        Decision::NotApplicable => 0,
-        Decision::Indeterminate => 0,
+        Verdict::Permit => h.permits,
+        Verdict::Deny => h.denies,
+        Verdict::NotApplicable => 0,
+        Verdict::Indeterminate(_) => 0,
     }
 }
 
@@ -203,8 +203,8 @@ fn answer(h: Head) -> Answer
     if !h.over {
         return Answer::Running;
     }
-    let decision = h.reg;
-    Answer::Finished(decision, count(h))
+    let verdict = h.reg;
+    Answer::Finished(verdict, count(h))
 }
 
 // The obligations first, and zero in every other place.

@@ -20,7 +20,7 @@ use Rattle.sums.specs.declared.Operator.{Operator}
 use Rattle.sums.specs.declared.Operator.the-variants.{Add, Subtract, Multiply, Divide, Remainder, DoubleAdd}
 use Rattle.sums.specs.declared.Worth.{Worth}
 use Rattle.sums.specs.declared.Worth.the-variants.{Is, Lost}
-use Rattle.sums.specs.Sums.{unsigned64, bytesOf, fitted, addOf, subOf, mulOf, divOf, remOf, plusOf, ofIntegers, ofDoubles, resultOf, kindOf}
+use Rattle.sums.specs.Sums.{failed, unsigned64, bytesOf, fitted, addOf, subOf, mulOf, divOf, remOf, plusOf, ofIntegers, ofDoubles, resultOf, kindOf}
 use Rattle.sums.specs.Bytes.{Of, BytesBack, AsItIs, ResultOfKind}
 use Rattle.sums.proofs.Finite.{finiteOr, bits-back, sum-is}
 
@@ -72,7 +72,7 @@ of-integer z h = record { bytes = unsigned64 z; short = unsigned-short z h; stan
 
 Made : ℕ → Worth → Type 0
 Made k (Is v) = Of k v
-Made k Lost = Unit
+Made k (Lost s) = Unit
 
 made : (k : ℕ) (w : Worth) (v : Value) → Made k w → w ≡ Is v → Of k v
 unfolding Made
@@ -82,11 +82,11 @@ made-fitted : (z : ℤ) → Made 1 (fitted z)
 unfolding Made
 made-fitted z = go (ltb (mag z) (2 ^ 63)) refl
   where
-    go : (b : Bool) → ltb (mag z) (2 ^ 63) ≡ b → Made 1 (if b (Is (Integer z)) Lost)
+    go : (b : Bool) → ltb (mag z) (2 ^ 63) ≡ b → Made 1 (if b (Is (Integer z)) failed)
     go true e = of-integer z (ltb-true _ _ e)
     go false e = tt
 
-made-if : (k : ℕ) (b : Bool) (w : Worth) → Made k w → Made k (if b Lost w)
+made-if : (k : ℕ) (b : Bool) (w : Worth) → Made k w → Made k (if b failed w)
 unfolding Made
 made-if k true w h = tt
 made-if k false w h = h

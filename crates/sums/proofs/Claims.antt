@@ -15,7 +15,7 @@ use Rattle.value.specs.declared.Value.the-variants.{Integer, Name, Double}
 use Rattle.sums.specs.declared.Operator.the-variants.{Add, Subtract, Multiply, Divide, Remainder, DoubleAdd}
 use Rattle.sums.specs.declared.Worth.{Worth}
 use Rattle.sums.specs.declared.Worth.the-variants.{Is, Lost}
-use Rattle.sums.specs.Sums.{addOf, subOf, mulOf, divOf, remOf, plusOf, ofIntegers, ofDoubles}
+use Rattle.sums.specs.Sums.{failed, addOf, subOf, mulOf, divOf, remOf, plusOf, ofIntegers, ofDoubles}
 use Rattle.sums.specs.Claims.{kindOfValue, FitsIs, ExactFirst, NoneByZero, QuotientAndRemainder, DividesTowardZero, RemainderByMinusOne, LeastByMinusOne, OnlyLeast, NoOther}
 use Rattle.sums.proofs.Quot.{quot-fits′, by-one}
 
@@ -24,7 +24,7 @@ pub fits-is : FitsIs
 fits-is (pos n) = rw (leb·suc-suc n (2 ^ 63 - 1))
 fits-is (negsuc n) = rw (leb·suc-suc n (2 ^ 63 - 1)) (go (leb n (2 ^ 63 - 1)))
   where
-    go : (b : Bool) → if b (Is (Integer (negsuc n))) Lost ≡ if (both b true) (Is (Integer (negsuc n))) Lost
+    go : (b : Bool) → if b (Is (Integer (negsuc n))) failed ≡ if (both b true) (Is (Integer (negsuc n))) failed
     go true = refl
     go false = refl
 
@@ -105,9 +105,9 @@ least-by-minus-one = refl
 
 isLost : Worth → Bool
 isLost (Is v) = false
-isLost Lost = true
+isLost (Lost s) = true
 
-given : (x y : ℤ) → (natAbs y ≡ 0 → ⊥) → divOf x y ≡ Lost → mag (quotZ x y) < 2 ^ 63 → ⊥
+given : (x y : ℤ) → (natAbs y ≡ 0 → ⊥) → divOf x y ≡ failed → mag (quotZ x y) < 2 ^ 63 → ⊥
 unfolding isLost
 given x y n e h =
     let f : divOf x y ≡ Is (Integer (quotZ x y)) = rw (ne-eqb (natAbs y) 0 n, lt-ltb (mag (quotZ x y)) (2 ^ 63) h) refl in
@@ -122,14 +122,14 @@ only-least x y h n e = go (ℤ-discrete x (negsuc (2 ^ 63 - 1))) (ℤ-discrete y
     go (no p) d = absurd (given x y n e (quot-fits′ x y h (λ s r. p r)))
 
 -- other types
-not-integers : (f : ℤ → ℤ → Worth) (x y : Value) → ((kindOfValue x ≡ 1) × (kindOfValue y ≡ 1) → ⊥) → ofIntegers f x y ≡ Lost
+not-integers : (f : ℤ → ℤ → Worth) (x y : Value) → ((kindOfValue x ≡ 1) × (kindOfValue y ≡ 1) → ⊥) → ofIntegers f x y ≡ failed
 not-integers f (Integer x) (Integer y) n = absurd (n (refl, refl))
 not-integers f (Integer x) (Name y) n = refl
 not-integers f (Integer x) (Double y) n = refl
 not-integers f (Name x) y n = refl
 not-integers f (Double x) y n = refl
 
-not-doubles : (f : Float → Float → Worth) (x y : Value) → ((kindOfValue x ≡ 3) × (kindOfValue y ≡ 3) → ⊥) → ofDoubles f x y ≡ Lost
+not-doubles : (f : Float → Float → Worth) (x y : Value) → ((kindOfValue x ≡ 3) × (kindOfValue y ≡ 3) → ⊥) → ofDoubles f x y ≡ failed
 not-doubles f (Double x) (Integer y) n = refl
 not-doubles f (Double x) (Name y) n = refl
 not-doubles f (Double x) (Double y) n = absurd (n (refl, refl))

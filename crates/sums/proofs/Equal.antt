@@ -22,14 +22,14 @@ use Rattle.doubles.specs.Rounds.{dropped, even, minusOf, finiteSum}
 use Rattle.sums.specs.declared.Operator.the-variants.{Add, Subtract, Multiply, Divide, Remainder, DoubleAdd}
 use Rattle.sums.specs.declared.Worth.{Worth}
 use Rattle.sums.specs.declared.Worth.the-variants.{Is, Lost}
-use Rattle.sums.specs.Sums.{exactSum, nearestSum, addOf, subOf, mulOf, divOf, remOf, ofIntegers, bytesOf, resultOf}
+use Rattle.sums.specs.Sums.{failed, exactSum, nearestSum, addOf, subOf, mulOf, divOf, remOf, ofIntegers, bytesOf, resultOf}
 use Rattle.sums.specs.Equal.{WorthAlike, EqualValues, EqualOperands}
 use Rattle.sums.proofs.Finite.{no-first, no-second}
 use Rattle.sums.proofs.Bytes.{isFin, double-back}
 
 alike-itself : (kind : ℕ) (w : Worth) → WorthAlike kind w w
 alike-itself kind (Is v) = equal-to-itself kind (bytesOf v)
-alike-itself kind Lost = tt
+alike-itself kind (Lost s) = refl
 
 -- a finite double is read from the bytes that it is written as
 has-size : (x : Float) (s : Bool) (a c : ℕ) → HasValue x s a c → isFin x ≡ true
@@ -77,7 +77,7 @@ integers-alike f a b c d p q = rw (same-whole (signed64 a) (signed64 c) p, same-
 
 -- doubles: of one exact sum the nearest doubles differ at most in the sign of a zero
 abbrev nearestBy : Bool → ℤ → Worth
-nearestBy s z = if (finiteSum z) (Is (Double (units binary64 s (even (natAbs z) (dropped (natAbs z))) (dropped (natAbs z))))) Lost
+nearestBy s z = if (finiteSum z) (Is (Double (units binary64 s (even (natAbs z) (dropped (natAbs z))) (dropped (natAbs z))))) failed
 
 zeros-alike : (s t : Bool) → WorthAlike 3 (nearestBy s (pos 0)) (nearestBy t (pos 0))
 unfolding size units odd toBits ofBits ofFields eq valueOf finiteOf
@@ -115,8 +115,8 @@ doubles-alike a b c d (inl u) (inl v) =
     (nearest-alike (written a) (written b) (written c) (written d)
     (written-units a (u .0) ∙ u .2 ∙ sym (written-units c (u .1)))
     (written-units b (v .0) ∙ v .2 ∙ sym (written-units d (v .1))))
-doubles-alike a b c d (inl u) (inr v) = rw (← no-second a b (v .0), ← no-second c d (v .1)) tt
-doubles-alike a b c d (inr u) k = rw (← no-first a (valueOf 3 b) (u .0), ← no-first c (valueOf 3 d) (u .1)) tt
+doubles-alike a b c d (inl u) (inr v) = rw (← no-second a b (v .0), ← no-second c d (v .1)) refl
+doubles-alike a b c d (inr u) k = rw (← no-first a (valueOf 3 b) (u .0), ← no-first c (valueOf 3 d) (u .1)) refl
 
 pub equal-operands : EqualOperands
 equal-operands Add a b c d p q = integers-alike addOf a b c d p q

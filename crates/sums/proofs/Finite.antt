@@ -14,14 +14,14 @@ use Rattle.value.proofs.Sizes.{double-value, bits-value}
 use Rattle.doubles.specs.Rounds.{roundedOf, finiteSum}
 use Rattle.doubles.proofs.Claims.{machine-adds, rounded-size, infinite-from}
 use Rattle.sums.specs.declared.Worth.{Worth}
-use Rattle.sums.specs.declared.Worth.the-variants.{Is, Lost}
+use Rattle.sums.specs.declared.Worth.the-variants.{Is}
 use Rattle.sums.specs.declared.Operator.the-variants.{DoubleAdd}
-use Rattle.sums.specs.Sums.{exactSum, nearestSum, plusOf, ofDoubles, resultOf}
+use Rattle.sums.specs.Sums.{failed, exactSum, nearestSum, plusOf, ofDoubles, resultOf}
 
 -- the double, if it is finite
 abbrev pub finiteOr : Float → Worth
-finiteOr nan = Lost
-finiteOr (inf s) = Lost
+finiteOr nan = failed
+finiteOr (inf s) = failed
 finiteOr (fin s m e) = Is (Double (fin s m e))
 
 finite-is : (x : Float) (s : Bool) (a c : ℕ) → HasValue x s a c → finiteOr x ≡ Is (Double x)
@@ -44,7 +44,7 @@ module _ (a b : ℕ) (A : a < 2 ^ 64) (B : b < 2 ^ 64) (p : T (finiteOf a)) (q :
   nearest-is = ap finiteOr (machine-adds a b p q) ∙ go (finiteSum (exactSum a b)) refl
     where
       go : (f : Bool) → finiteSum (exactSum a b) ≡ f
-          → finiteOr (roundedOf (leb (2 ^ 63) a) (leb (2 ^ 63) b) (exactSum a b)) ≡ if f (Is (Double (roundedOf (leb (2 ^ 63) a) (leb (2 ^ 63) b) (exactSum a b)))) Lost
+          → finiteOr (roundedOf (leb (2 ^ 63) a) (leb (2 ^ 63) b) (exactSum a b)) ≡ if f (Is (Double (roundedOf (leb (2 ^ 63) a) (leb (2 ^ 63) b) (exactSum a b)))) failed
       go true e = finite-is _ _ _ _ (rounded-size (leb (2 ^ 63) a) (leb (2 ^ 63) b) (exactSum a b) e)
       go false e = ap finiteOr (infinite-from (leb (2 ^ 63) a) (leb (2 ^ 63) b) (exactSum a b) e)
 
@@ -52,15 +52,15 @@ module _ (a b : ℕ) (A : a < 2 ^ 64) (B : b < 2 ^ 64) (p : T (finiteOf a)) (q :
   sum-is = nearest-is ∙ rw (double-value a p, double-value b q, bits-back a A p, bits-back b B q) refl
 
 -- eight bytes that are not a finite double's have no sum
-pub no-first : (a : ℕ) (v : Value) → finiteOf a ≡ false → Lost ≡ resultOf DoubleAdd (valueOf 3 a) v
+pub no-first : (a : ℕ) (v : Value) → finiteOf a ≡ false → failed ≡ resultOf DoubleAdd (valueOf 3 a) v
 unfolding valueOf
 no-first a v e = rw e
 
-pub no-second : (a b : ℕ) → finiteOf b ≡ false → Lost ≡ resultOf DoubleAdd (valueOf 3 a) (valueOf 3 b)
+pub no-second : (a b : ℕ) → finiteOf b ≡ false → failed ≡ resultOf DoubleAdd (valueOf 3 a) (valueOf 3 b)
 unfolding valueOf
 no-second a b e = rw e (go (finiteOf a))
   where
-    go : (f : Bool) → Lost ≡ ofDoubles plusOf (if f (Double (ofBits binary64 a)) (Name a)) (Name b)
+    go : (f : Bool) → failed ≡ ofDoubles plusOf (if f (Double (ofBits binary64 a)) (Name a)) (Name b)
     go true = refl
     go false = refl
 
@@ -72,13 +72,13 @@ between (inf true) p q = absurd (true≢false (sym q))
 between (inf false) p q = absurd (true≢false (sym p))
 between (fin s m e) p q = refl
 
-pub not-below : (r : Float) → lt r (ofBits binary64 9218868437227405312) ≡ false → Lost ≡ finiteOr r
+pub not-below : (r : Float) → lt r (ofBits binary64 9218868437227405312) ≡ false → failed ≡ finiteOr r
 unfolding lt ofBits
 not-below nan p = refl
 not-below (inf s) p = refl
 not-below (fin s m e) p = absurd (true≢false p)
 
-pub not-above : (r : Float) → lt (ofBits binary64 18442240474082181120) r ≡ false → Lost ≡ finiteOr r
+pub not-above : (r : Float) → lt (ofBits binary64 18442240474082181120) r ≡ false → failed ≡ finiteOr r
 unfolding lt ofBits
 not-above nan p = refl
 not-above (inf s) p = refl

@@ -12,8 +12,8 @@ use mir.Syntax.{w64}
 use mir.Val.{SFits}
 use mir.Facts.{toZ-ofZ}
 use Rattle.value.specs.declared.Value.the-variants.{Integer}
-use Rattle.sums.specs.declared.Worth.the-variants.{Is, Lost}
-use Rattle.sums.specs.Sums.{subOf}
+use Rattle.sums.specs.declared.Worth.the-variants.{Is}
+use Rattle.sums.specs.Sums.{failed, subOf}
 use Rattle.sums.proofs.Sum.{M, fits, fits-is, fits-does, fits-fails, again, flip, low-test, high-test, sub-fits}
 
 -- ---- x > 2 ^ 63 - 1 + y, for a negative y, exactly where the difference does not fit
@@ -76,5 +76,5 @@ module _ (x y : ℤ) (X : SFits w64 x) (Y : SFits w64 y) where
   pub less-is : fits (x -ℤ y) ≡ true → Is (Integer (again (again x -ℤ again y))) ≡ subOf x y
   less-is h = rw (toZ-ofZ X, toZ-ofZ Y) (fits-does (x -ℤ y) h)
 
-  pub less-fails : fits (x -ℤ y) ≡ false → Lost ≡ subOf x y
+  pub less-fails : fits (x -ℤ y) ≡ false → failed ≡ subOf x y
   less-fails h = fits-fails (x -ℤ y) h

@@ -16,13 +16,13 @@ use Rattle.sums.specs.declared.Operator.{Operator}
 use Rattle.sums.specs.declared.Operator.the-variants.{Add, Subtract, Multiply, Divide, Remainder, DoubleAdd}
 use Rattle.sums.specs.declared.Worth.{Worth}
 use Rattle.sums.specs.declared.Worth.the-variants.{Is, Lost}
-use Rattle.sums.specs.Sums.{isNumber, fitted, exactSum, nearestSum, addOf, subOf, mulOf, divOf, remOf, plusOf, ofIntegers, ofDoubles, resultOf}
+use Rattle.sums.specs.Sums.{failed, isNumber, fitted, exactSum, nearestSum, addOf, subOf, mulOf, divOf, remOf, plusOf, ofIntegers, ofDoubles, resultOf}
 use Rattle.sums.proofs.Finite.{number-is}
 
 -- what an operator gives is a number
 Number : Worth → Type 0
 Number (Is v) = T (isNumber v)
-Number Lost = Unit
+Number (Lost s) = Unit
 
 number-if : (b : Bool) (v w : Worth) → Number v → Number w → Number (if b v w)
 number-if true v w h k = h
@@ -30,7 +30,7 @@ number-if false v w h k = k
 
 number-fitted : (z : ℤ) → Number (fitted z)
 unfolding Number
-number-fitted z = number-if (ltb (mag z) (2 ^ 63)) (Is (Integer z)) Lost tt tt
+number-fitted z = number-if (ltb (mag z) (2 ^ 63)) (Is (Integer z)) failed tt tt
 
 number-odd : (d : ℕ) (s : Bool) (q k l : ℕ) → T (isNumber (Double (odd d s q k l)))
 unfolding odd isNan
@@ -47,7 +47,7 @@ number-units s q k = go (ltb (q * 2 ^ k) (2 ^ 2098))
 
 number-nearest : (a b : ℕ) → Number (nearestSum a b)
 unfolding Number
-number-nearest a b = number-if (finiteSum (exactSum a b)) (Is (Double (roundedOf (leb (2 ^ 63) a) (leb (2 ^ 63) b) (exactSum a b)))) Lost (number-units _ _ _) tt
+number-nearest a b = number-if (finiteSum (exactSum a b)) (Is (Double (roundedOf (leb (2 ^ 63) a) (leb (2 ^ 63) b) (exactSum a b)))) failed (number-units _ _ _) tt
 
 number-integers : (f : ℤ → ℤ → Worth) → ((x y : ℤ) → Number (f x y)) → (a b : Value) → Number (ofIntegers f a b)
 unfolding Number
@@ -70,8 +70,8 @@ unfolding Number
 number-result Add a b = number-integers addOf (λ x y. number-fitted (x +ℤ y)) a b
 number-result Subtract a b = number-integers subOf (λ x y. number-fitted (x -ℤ y)) a b
 number-result Multiply a b = number-integers mulOf (λ x y. number-fitted (x *ℤ y)) a b
-number-result Divide a b = number-integers divOf (λ x y. number-if (eqb (natAbs y) 0) Lost (fitted (quotZ x y)) tt (number-fitted (quotZ x y))) a b
-number-result Remainder a b = number-integers remOf (λ x y. number-if (eqb (natAbs y) 0) Lost (Is (Integer (remZ x y))) tt tt) a b
+number-result Divide a b = number-integers divOf (λ x y. number-if (eqb (natAbs y) 0) failed (fitted (quotZ x y)) tt (number-fitted (quotZ x y))) a b
+number-result Remainder a b = number-integers remOf (λ x y. number-if (eqb (natAbs y) 0) failed (Is (Integer (remZ x y))) tt tt) a b
 number-result DoubleAdd a b = number-doubles a b
 
 pub result-number : (op : Operator) (a b v : Value) {w : Worth} → w ≡ resultOf op a b → w ≡ Is v → T (isNumber v)

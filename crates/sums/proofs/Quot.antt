@@ -13,8 +13,8 @@ use mir.Facts.{toZ-ofZ}
 use Rattle.value.specs.Units.{withSign}
 use Rattle.value.specs.declared.Value.the-variants.{Integer}
 use Rattle.sums.specs.declared.Worth.{Worth}
-use Rattle.sums.specs.declared.Worth.the-variants.{Is, Lost}
-use Rattle.sums.specs.Sums.{fitted, divOf, remOf}
+use Rattle.sums.specs.declared.Worth.the-variants.{Is}
+use Rattle.sums.specs.Sums.{failed, fitted, divOf, remOf}
 use Rattle.sums.proofs.Sum.{again}
 
 -- ---- what the bits say
@@ -50,10 +50,10 @@ quot-fits′ (negsuc a) (negsuc (suc b)) h n =
     let l : suc a / suc (suc b) < suc a = div-lt-self (omega arith) (omega arith) in
     omega arith
 
-pub fails : (z : ℤ) → 2 ^ 63 ≤ mag z → Lost ≡ fitted z
+pub fails : (z : ℤ) → 2 ^ 63 ≤ mag z → failed ≡ fitted z
 fails z h = rw (le-ltb (mag z) (2 ^ 63) h)
 
-least-by-minus-one : (x y : ℤ) → x ≡ negsuc 9223372036854775807 → y ≡ negsuc 0 → Lost ≡ divOf x y
+least-by-minus-one : (x y : ℤ) → x ≡ negsuc 9223372036854775807 → y ≡ negsuc 0 → failed ≡ divOf x y
 least-by-minus-one x y p q = rw (p, q)
 
 pub by-one : (x : ℤ) → Is (Integer (pos 0)) ≡ remOf x (negsuc 0)
@@ -65,10 +65,10 @@ pos-bits n h = omega arith
 
 -- ---- as the needs of `div` have them
 module _ (x y : ℤ) (X : SFits w64 x) (Y : SFits w64 y) where
-  pub div-zero : ofZ w64 y ≡ 0 → Lost ≡ divOf x y
+  pub div-zero : ofZ w64 y ≡ 0 → failed ≡ divOf x y
   div-zero h = rw (zero-bits y Y h)
 
-  pub div-least : ofZ w64 y ≡ 18446744073709551615 → ofZ w64 x ≡ 9223372036854775808 → Lost ≡ divOf x y
+  pub div-least : ofZ w64 y ≡ 18446744073709551615 → ofZ w64 x ≡ 9223372036854775808 → failed ≡ divOf x y
   div-least h k = least-by-minus-one x y (least-bits x X k) (minus-one-bits y Y h)
 
   module _ (some : ofZ w64 y ≡ 0 → ⊥) (other : y ≡ negsuc 0 → x ≡ negsuc 9223372036854775807 → ⊥) where
@@ -89,7 +89,7 @@ by-size (pos a) y = rw (le-ltb a 0 (omega arith))
 by-size (negsuc a) y = refl
 
 module _ (x y : ℤ) (X : SFits w64 x) (Y : SFits w64 y) {a b : ℕ} (A : a ≡ natAbs (again x)) (B : b ≡ natAbs (again y)) where
-  pub rem-zero : b ≡ 0 → Lost ≡ remOf x y
+  pub rem-zero : b ≡ 0 → failed ≡ remOf x y
   rem-zero h = let e : natAbs y ≡ 0 = sym (B ∙ ap natAbs (toZ-ofZ Y)) ∙ h in rw e
 
   pub rem-is : (b ≡ 0 → ⊥) → {s : Bool} {o : Worth} → s ≡ ltZ (again x) (pos 0) → o ≡ fitted (withSign s (a % b)) → o ≡ remOf x y

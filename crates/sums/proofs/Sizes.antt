@@ -15,9 +15,9 @@ use mir.Facts.{toZ-ofZ, toZ-pos}
 use Rattle.sums.proofs.Signed.{both-are}
 use Rattle.value.specs.declared.Value.the-variants.{Integer}
 use Rattle.sums.specs.declared.Worth.{Worth}
-use Rattle.sums.specs.declared.Worth.the-variants.{Is, Lost}
+use Rattle.sums.specs.declared.Worth.the-variants.{Is}
 use Rattle.value.specs.Units.{withSign}
-use Rattle.sums.specs.Sums.{fitted, differ, mulOf, unsigned64}
+use Rattle.sums.specs.Sums.{failed, fitted, differ, mulOf, unsigned64}
 use Rattle.sums.proofs.Sum.{again}
 
 -- ---- the size of a negative number: -(x + 1) + 1
@@ -81,11 +81,11 @@ module _ (x : ℤ) (X : SFits w64 x) (n : ltZ (again x) (pos 0) ≡ false) where
   pos-is = rw whole (ap unsigned64 (sym (is-pos x (rw (toZ-ofZ X) at n))))
 
 -- ---- of a sign and a size
-pub minus-fails : (n : ℕ) → 2 ^ 63 < n → Lost ≡ fitted (negℤ (pos n))
+pub minus-fails : (n : ℕ) → 2 ^ 63 < n → failed ≡ fitted (negℤ (pos n))
 minus-fails zero h = absurd (omega arith)
 minus-fails (suc n) h = let l : 2 ^ 63 ≤ n = omega arith in rw (le-ltb n (2 ^ 63) l)
 
-pub plus-fails : (n : ℕ) → 9223372036854775807 < n → Lost ≡ fitted (pos n)
+pub plus-fails : (n : ℕ) → 9223372036854775807 < n → failed ≡ fitted (pos n)
 plus-fails n h = rw (le-ltb n (2 ^ 63) h)
 
 pub plus-is : (n : ℕ) → n ≤ 9223372036854775807 → Is (Integer (toZ w64 n)) ≡ fitted (pos n)
@@ -105,7 +105,7 @@ product (pos a) (negsuc b) = rw (le-ltb a 0 (omega arith))
 product (negsuc a) (pos b) = rw (le-ltb b 0 (omega arith))
 product (negsuc a) (negsuc b) = refl
 
-too-large : (s : Bool) (n : ℕ) → 2 ^ 64 ≤ n → Lost ≡ fitted (withSign s n)
+too-large : (s : Bool) (n : ℕ) → 2 ^ 64 ≤ n → failed ≡ fitted (withSign s n)
 too-large true n h = minus-fails n (omega arith)
 too-large false n h = plus-fails n (omega arith)
 
@@ -123,7 +123,7 @@ over a b h k = div-lt-iff-lt-mul h .0 k
 pub under : (a b : ℕ) → 0 < a → b ≤ 18446744073709551615 / a → b * a ≤ 18446744073709551615
 under a b h k = le-div-iff-mul-le h .0 k
 
-pub mul-fails : (x y : ℤ) → (natAbs x ≡ 0 → ⊥) → 18446744073709551615 / natAbs x < natAbs y → Lost ≡ mulOf x y
+pub mul-fails : (x y : ℤ) → (natAbs x ≡ 0 → ⊥) → 18446744073709551615 / natAbs x < natAbs y → failed ≡ mulOf x y
 mul-fails x y z h =
     let p : 0 < natAbs x = omega arith in
     let l : 18446744073709551615 < natAbs y * natAbs x = over (natAbs x) (natAbs y) p h in

@@ -11,8 +11,8 @@ use mir.Syntax.{w64}
 use mir.Val.{SFits, toZ, ofZ}
 use mir.Facts.{toZ-ofZ}
 use Rattle.value.specs.declared.Value.the-variants.{Integer}
-use Rattle.sums.specs.declared.Worth.the-variants.{Is, Lost}
-use Rattle.sums.specs.Sums.{fitted, addOf}
+use Rattle.sums.specs.declared.Worth.the-variants.{Is}
+use Rattle.sums.specs.Sums.{failed, fitted, addOf}
 
 abbrev pub M : ℕ
 M = 9223372036854775807
@@ -27,7 +27,7 @@ fits-is z h = record { sfits = ltb-true (mag z) (2 ^ 63) h }
 pub fits-does : (z : ℤ) → fits z ≡ true → Is (Integer (toZ w64 (ofZ w64 z))) ≡ fitted z
 fits-does z h = rw (toZ-ofZ (fits-is z h), h)
 
-pub fits-fails : (z : ℤ) → fits z ≡ false → Lost ≡ fitted z
+pub fits-fails : (z : ℤ) → fits z ≡ false → failed ≡ fitted z
 fits-fails z h = rw h
 
 -- one test is the other's opposite
@@ -135,5 +135,5 @@ module _ (x y : ℤ) (X : SFits w64 x) (Y : SFits w64 y) where
   pub sum-is : fits (x +ℤ y) ≡ true → Is (Integer (again (again x +ℤ again y))) ≡ addOf x y
   sum-is h = rw (toZ-ofZ X, toZ-ofZ Y) (fits-does (x +ℤ y) h)
 
-  pub sum-fails : fits (x +ℤ y) ≡ false → Lost ≡ addOf x y
+  pub sum-fails : fits (x +ℤ y) ≡ false → failed ≡ addOf x y
   sum-fails h = fits-fails (x +ℤ y) h

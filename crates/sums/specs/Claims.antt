@@ -11,12 +11,12 @@ use Rattle.value.specs.declared.Value.{Value}
 use Rattle.value.specs.declared.Value.the-variants.{Integer, Name, Double}
 use Rattle.sums.specs.declared.Operator.{Operator}
 use Rattle.sums.specs.declared.Operator.the-variants.{Add, Subtract, Multiply, Divide, Remainder}
-use Rattle.sums.specs.declared.Worth.the-variants.{Is, Lost}
-use Rattle.sums.specs.Sums.{fitted, resultOf, kindOf}
+use Rattle.sums.specs.declared.Worth.the-variants.{Is}
+use Rattle.sums.specs.Sums.{failed, fitted, resultOf, kindOf}
 
 -- a result is given, as it is, exactly from -2 ^ 63 to 2 ^ 63 - 1
 abbrev pub FitsIs : Type 0
-FitsIs = (z : ℤ) → fitted z ≡ if (both (leZ (negsuc (2 ^ 63 - 1)) z) (leZ z (pos (2 ^ 63 - 1)))) (Is (Integer z)) Lost
+FitsIs = (z : ℤ) → fitted z ≡ if (both (leZ (negsuc (2 ^ 63 - 1)) z) (leZ z (pos (2 ^ 63 - 1)))) (Is (Integer z)) failed
 
 -- add, subtract and multiply give the exact sum, difference and product, where it fits
 abbrev pub ExactFirst : Type 0
@@ -28,7 +28,7 @@ ExactFirst =
 
 -- divide and remainder by 0 give none
 abbrev pub NoneByZero : Type 0
-NoneByZero = (x : ℤ) → (resultOf Divide (Integer x) (Integer (pos 0)) ≡ Lost) × (resultOf Remainder (Integer x) (Integer (pos 0)) ≡ Lost)
+NoneByZero = (x : ℤ) → (resultOf Divide (Integer x) (Integer (pos 0)) ≡ failed) × (resultOf Remainder (Integer x) (Integer (pos 0)) ≡ failed)
 
 -- by any other number divide gives the quotient, where it fits, and remainder gives the remainder
 abbrev pub QuotientAndRemainder : Type 0
@@ -54,12 +54,12 @@ RemainderByMinusOne = (x : ℤ) → resultOf Remainder (Integer x) (Integer (neg
 
 -- the least number by -1 has no quotient that fits
 abbrev pub LeastByMinusOne : Type 0
-LeastByMinusOne = resultOf Divide (Integer (negsuc (2 ^ 63 - 1))) (Integer (negsuc 0)) ≡ Lost
+LeastByMinusOne = resultOf Divide (Integer (negsuc (2 ^ 63 - 1))) (Integer (negsuc 0)) ≡ failed
 
 -- and of a dividend of 64 bits by a divisor that is not 0 no other quotient fails
 abbrev pub OnlyLeast : Type 0
 OnlyLeast =
-    (x y : ℤ) → mag x < 2 ^ 63 → (natAbs y ≡ 0 → ⊥) → resultOf Divide (Integer x) (Integer y) ≡ Lost → (x ≡ negsuc (2 ^ 63 - 1)) × (y ≡ negsuc 0)
+    (x y : ℤ) → mag x < 2 ^ 63 → (natAbs y ≡ 0 → ⊥) → resultOf Divide (Integer x) (Integer y) ≡ failed → (x ≡ negsuc (2 ^ 63 - 1)) × (y ≡ negsuc 0)
 
 -- the type of a value: 1 integer, 2 name, 3 double
 abbrev pub kindOfValue : Value → ℕ
@@ -69,4 +69,4 @@ kindOfValue (Double x) = 3
 
 -- of values that are not both of its type an operator gives none
 abbrev pub NoOther : Type 0
-NoOther = (o : Operator) (x y : Value) → ((kindOfValue x ≡ kindOf o) × (kindOfValue y ≡ kindOf o) → ⊥) → resultOf o x y ≡ Lost
+NoOther = (o : Operator) (x y : Value) → ((kindOfValue x ≡ kindOf o) × (kindOfValue y ≡ kindOf o) → ⊥) → resultOf o x y ≡ failed

@@ -1,5 +1,6 @@
 -- Equal operands give equal results, the two zeros of doubles too. `proofs/Equal.antt` proves it. Assumes nothing.
 use Prim.Native.Nat.{ℕ}
+use mathlib.Core.Path.{_≡_}
 use lib.Dec.{T}
 use Rattle.value.specs.Value.{valueOf, equalOf}
 use Rattle.sums.specs.declared.Operator.{Operator}
@@ -7,11 +8,11 @@ use Rattle.sums.specs.declared.Worth.{Worth}
 use Rattle.sums.specs.declared.Worth.the-variants.{Is, Lost}
 use Rattle.sums.specs.Sums.{bytesOf, kindOf, resultOf}
 
--- both are lost, or the eight bytes of both stand for equal values of this type
+-- both are lost for the same reason, or the eight bytes of both stand for equal values of this type
 abbrev pub WorthAlike : ℕ → Worth → Worth → Type 0
-WorthAlike kind Lost Lost = Unit
-WorthAlike kind Lost (Is y) = ⊥
-WorthAlike kind (Is x) Lost = ⊥
+WorthAlike kind (Lost s) (Lost t) = s ≡ t
+WorthAlike kind (Lost s) (Is y) = ⊥
+WorthAlike kind (Is x) (Lost t) = ⊥
 WorthAlike kind (Is x) (Is y) = T (equalOf (valueOf kind (bytesOf x)) (valueOf kind (bytesOf y)))
 
 -- equal values of a type are alike

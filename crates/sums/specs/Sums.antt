@@ -12,14 +12,19 @@ use Rattle.value.specs.declared.Value.{Value}
 use Rattle.value.specs.declared.Value.the-variants.{Integer, Name, Double}
 use Rattle.sums.specs.declared.Operator.{Operator}
 use Rattle.sums.specs.declared.Operator.the-variants.{Add, Subtract, Multiply, Divide, Remainder, DoubleAdd}
+use Rattle.sums.specs.declared.Status.the-variants.{Processing}
 use Rattle.sums.specs.declared.Worth.{Worth}
 use Rattle.sums.specs.declared.Worth.the-variants.{Is, Lost}
 use Rattle.sums.specs.declared.Word.{Word}
 use Rattle.sums.specs.declared.Word.the-variants.{Holds, Nothing}
 
+-- a failed sum is a processing error (document 02, section 4)
+abbrev pub failed : Worth
+failed = Lost Processing
+
 -- the whole number, if 64 bits hold it: `mag z` is n both for n and for -(n + 1)
 abbrev pub fitted : ℤ → Worth
-fitted z = if (ltb (mag z) (2 ^ 63)) (Is (Integer z)) Lost
+fitted z = if (ltb (mag z) (2 ^ 63)) (Is (Integer z)) failed
 
 abbrev pub addOf : ℤ → ℤ → Worth
 addOf x y = fitted (x +ℤ y)
@@ -32,11 +37,11 @@ mulOf x y = fitted (x *ℤ y)
 
 -- toward zero; a zero divisor gives none, nor does the least number by -1, which does not fit
 abbrev pub divOf : ℤ → ℤ → Worth
-divOf x y = if (eqb (natAbs y) 0) Lost (fitted (quotZ x y))
+divOf x y = if (eqb (natAbs y) 0) failed (fitted (quotZ x y))
 
 -- with the dividend's sign; a zero divisor gives none. It always fits, and by -1 it is 0
 abbrev pub remOf : ℤ → ℤ → Worth
-remOf x y = if (eqb (natAbs y) 0) Lost (Is (Integer (remZ x y)))
+remOf x y = if (eqb (natAbs y) 0) failed (Is (Integer (remZ x y)))
 
 -- the exact sum of two doubles, by their eight bytes, as a whole number of units of two to the power -1074
 abbrev pub exactSum : ℕ → ℕ → ℤ
@@ -44,7 +49,7 @@ exactSum a b = unitsOf a +ℤ unitsOf b
 
 -- the double nearest to it, if that is finite; the top bit of eight bytes is the sign
 abbrev pub nearestSum : ℕ → ℕ → Worth
-nearestSum a b = if (finiteSum (exactSum a b)) (Is (Double (roundedOf (leb (2 ^ 63) a) (leb (2 ^ 63) b) (exactSum a b)))) Lost
+nearestSum a b = if (finiteSum (exactSum a b)) (Is (Double (roundedOf (leb (2 ^ 63) a) (leb (2 ^ 63) b) (exactSum a b)))) failed
 
 abbrev pub plusOf : Float → Float → Worth
 plusOf x y = nearestSum (toBits binary64 x) (toBits binary64 y)
@@ -52,17 +57,17 @@ plusOf x y = nearestSum (toBits binary64 x) (toBits binary64 y)
 -- of two values; of other types than the operator's there is none
 abbrev pub ofIntegers : (ℤ → ℤ → Worth) → Value → Value → Worth
 ofIntegers f (Integer x) (Integer y) = f x y
-ofIntegers f (Integer x) (Name y) = Lost
-ofIntegers f (Integer x) (Double y) = Lost
-ofIntegers f (Name x) b = Lost
-ofIntegers f (Double x) b = Lost
+ofIntegers f (Integer x) (Name y) = failed
+ofIntegers f (Integer x) (Double y) = failed
+ofIntegers f (Name x) b = failed
+ofIntegers f (Double x) b = failed
 
 abbrev pub ofDoubles : (Float → Float → Worth) → Value → Value → Worth
-ofDoubles f (Double x) (Integer y) = Lost
-ofDoubles f (Double x) (Name y) = Lost
+ofDoubles f (Double x) (Integer y) = failed
+ofDoubles f (Double x) (Name y) = failed
 ofDoubles f (Double x) (Double y) = f x y
-ofDoubles f (Integer x) b = Lost
-ofDoubles f (Name x) b = Lost
+ofDoubles f (Integer x) b = failed
+ofDoubles f (Name x) b = failed
 
 -- the operators, choices 3 to 8 of kind 0A
 abbrev pub resultOf : Operator → Value → Value → Worth
@@ -95,7 +100,7 @@ bytesOf (Double x) = toBits binary64 x
 -- a worth, in bytes
 abbrev pub inBytes : Worth → Word
 inBytes (Is v) = Holds (bytesOf v)
-inBytes Lost = Nothing
+inBytes (Lost s) = Nothing s
 
 -- an integer, a name or a double that is a number
 abbrev pub isNumber : Value → Bool

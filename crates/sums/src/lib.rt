@@ -17,9 +17,16 @@ pub enum Operator {
     DoubleAdd,
 }
 
+// The standard's status codes: why there is no answer. A missing attribute; a processing error, as a sum that fails.
+pub enum Status {
+    Missing,
+    Processing,
+}
+
+// A value, or why there is none.
 pub enum Worth {
     Is(Value),
-    Lost,
+    Lost(Status),
 }
 
 fn add(x: i64, y: i64) -> Worth
@@ -27,13 +34,13 @@ fn add(x: i64, y: i64) -> Worth
 {
     if y < 0 {
         if x < i64::MIN - y {
-            return Worth::Lost;
+            return Worth::Lost(Status::Processing);
         }
         let low = x + y;
         return Worth::Is(Value::Integer(low));
     }
     if x > i64::MAX - y {
-        return Worth::Lost;
+        return Worth::Lost(Status::Processing);
     }
     let high = x + y;
     Worth::Is(Value::Integer(high))
@@ -44,13 +51,13 @@ fn sub(x: i64, y: i64) -> Worth
 {
     if y < 0 {
         if x > i64::MAX + y {
-            return Worth::Lost;
+            return Worth::Lost(Status::Processing);
         }
         let high = x - y;
         return Worth::Is(Value::Integer(high));
     }
     if x < i64::MIN + y {
-        return Worth::Lost;
+        return Worth::Lost(Status::Processing);
     }
     let low = x - y;
     Worth::Is(Value::Integer(low))
@@ -60,11 +67,11 @@ fn div(x: i64, y: i64) -> Worth
     ensures { λ r. ⌜ r ≡ divOf x y ⌝ }
 {
     if y == 0 {
-        return Worth::Lost;
+        return Worth::Lost(Status::Processing);
     }
     if y == -1 {
         if x == i64::MIN {
-            return Worth::Lost;
+            return Worth::Lost(Status::Processing);
         }
         let back = x / y;
         return Worth::Is(Value::Integer(back));
@@ -89,7 +96,7 @@ fn of_size(minus: bool, n: u64) -> Worth
 {
     if minus {
         if n > 9223372036854775808 {
-            return Worth::Lost;
+            return Worth::Lost(Status::Processing);
         }
         if n == 0 {
             return Worth::Is(Value::Integer(0));
@@ -98,7 +105,7 @@ fn of_size(minus: bool, n: u64) -> Worth
         return Worth::Is(Value::Integer(low));
     }
     if n > 9223372036854775807 {
-        return Worth::Lost;
+        return Worth::Lost(Status::Processing);
     }
     let high = n as i64;
     Worth::Is(Value::Integer(high))
@@ -120,7 +127,7 @@ fn mul(x: i64, y: i64) -> Worth
         return Worth::Is(Value::Integer(0));
     }
     if b > u64::MAX / a {
-        return Worth::Lost;
+        return Worth::Lost(Status::Processing);
     }
     of_size(unlike(x < 0, y < 0), b * a)
 }
@@ -131,7 +138,7 @@ fn rem(x: i64, y: i64) -> Worth
     let a = size(x);
     let b = size(y);
     if b == 0 {
-        return Worth::Lost;
+        return Worth::Lost(Status::Processing);
     }
     of_size(x < 0, a % b)
 }
@@ -141,10 +148,10 @@ fn plus(first: u64, second: u64) -> Worth
     ensures { λ r. ⌜ r ≡ resultOf DoubleAdd (valueOf 3 first) (valueOf 3 second) ⌝ }
 {
     if !value::finite(first) {
-        return Worth::Lost;
+        return Worth::Lost(Status::Processing);
     }
     if !value::finite(second) {
-        return Worth::Lost;
+        return Worth::Lost(Status::Processing);
     }
     let most = f64::from_bits(0x7FF0_0000_0000_0000);
     let least = f64::from_bits(0xFFF0_0000_0000_0000);
@@ -155,9 +162,9 @@ fn plus(first: u64, second: u64) -> Worth
         if r > least {
             return Worth::Is(Value::Double(r));
         }
-        return Worth::Lost;
+        return Worth::Lost(Status::Processing);
     }
-    Worth::Lost
+    Worth::Lost(Status::Processing)
 }
 
 // What the operator gives of two values of its type, by their eight bytes.
@@ -216,7 +223,7 @@ pub fn bytes_of(v: Value) -> u64
 // A worth as a word: its eight bytes.
 pub enum Word {
     Holds(u64),
-    Nothing,
+    Nothing(Status),
 }
 
 // The operator on two words: each is taken as the value of the operator's type that its eight bytes stand for.
@@ -225,6 +232,6 @@ pub fn work(op: Operator, first: u64, second: u64) -> Word
 {
     match operate(op, first, second) {
         Worth::Is(v) => Word::Holds(bytes_of(v)),
-        Worth::Lost => Word::Nothing,
+        Worth::Lost(why) => Word::Nothing(why),
     }
 }

@@ -10,8 +10,9 @@ use Rattle.record.specs.declared.Refusal.{Refusal}
 use Rattle.text.specs.Hex.{letterOf}
 use Rattle.line.specs.Line.{hexOf, decisionLine, refusalLine, placesOf, put, longest}
 use Rattle.line.proofs.Laws.{length-refusal, length-decision, places-fits}
+use Rattle.meaning.specs.Meaning.{decisionIn}
 use Rattle.meaning.specs.Numbers.{numberOf}
-use Rattle.meaning.specs.declared.Decision.{Decision}
+use Rattle.meaning.specs.declared.Verdict.{Verdict}
 use Rattle.run.specs.declared.kinds.Answer.{Answer}
 use Rattle.run.specs.declared.kinds.Answer.the-variants.{Running, Finished, Refused}
 use Rattle.ticks.specs.Lines.{stepsOf, answerLine, Leads}
@@ -39,11 +40,11 @@ module _ (l places : List ℕ) {later : List ℕ} {n : ℕ} (room : longest ≤ 
       let e : n ≡ length line = p ∙ sym (places-fits line (length l) (omega arith)) in
       record { taken = e; leaves = q ∙ rw e (simp (le-leb (length line) (length l) (omega arith))) }
 
-  pub finished-put : (d : Decision) (count : ℕ) {a : Answer} {x : ℕ} → a ≡ Finished d count → x ≡ numberOf d
+  pub finished-put : (d : Verdict) (count : ℕ) {a : Answer} {x : ℕ} → a ≡ Finished d count → x ≡ numberOf (decisionIn d)
       → n ≡ placesOf (decisionLine x (take count places)) (length l) → later ≡ put (decisionLine x (take count places)) l → Leads (answerLine a places) l later n
   unfolding answerLine
   finished-put d count e number p q =
-      rw e (found (decisionLine (numberOf d) (take count places)) (omega (arith, length-decision (numberOf d) (take count places), length-take count places)) (rw number at p) (rw number at q))
+      rw e (found (decisionLine (numberOf (decisionIn d)) (take count places)) (omega (arith, length-decision (numberOf (decisionIn d)) (take count places), length-take count places)) (rw number at p) (rw number at q))
 
   pub refused-put : (r : Refusal) {a : Answer} → a ≡ Refused r → n ≡ placesOf (refusalLine r) (length l) → later ≡ put (refusalLine r) l → Leads (answerLine a places) l later n
   unfolding answerLine

@@ -7,6 +7,7 @@ use lib.ListN.{length, take, drop, replicate}
 use Rattle.record.specs.Bytes.{mostRecords}
 use Rattle.text.specs.Text.{lf}
 use Rattle.line.specs.Line.{hexOf, decisionLine, refusalLine}
+use Rattle.meaning.specs.Meaning.{decisionIn}
 use Rattle.meaning.specs.Numbers.{numberOf}
 use Rattle.layout.specs.declared.State.{State}
 use Rattle.run.specs.Tick.{tickOf}
@@ -21,7 +22,7 @@ stepsOf steps = hexOf 4 steps ++ (32 ∷ [])
 -- 00 while running; else the line that `decide` prints
 unfoldable pub answerLine : Answer → List ℕ → List ℕ
 answerLine Running places = hexOf 2 0 ++ (lf ∷ [])
-answerLine (Finished d n) places = decisionLine (numberOf d) (take n places)
+answerLine (Finished d n) places = decisionLine (numberOf (decisionIn d)) (take n places)
 answerLine (Refused r) places = refusalLine r
 
 -- a line stands first in a lent output: n is its length, and what stands behind it stays

@@ -34,8 +34,8 @@ pub fn answer_line(answer: Answer, places: &[u16], out: &mut [u8]) -> usize
             out[2] = text::LF;
             3
         }
-        Answer::Finished(decision, count) => line::decision_line(
-            meaning::number(decision),
+        Answer::Finished(verdict, count) => line::decision_line(
+            meaning::number(meaning::decision_in(verdict)),
             places,
             count as usize,
             out,

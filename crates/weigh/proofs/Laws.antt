@@ -28,13 +28,13 @@ use Rattle.weigh.specs.Two.{secondIn}
 -- words and worths
 operated-is : (o : Operator) (x y : Worth) → operatedOf o (inBytes x) (inBytes y) ≡ inBytes (operated o x y)
 operated-is o (Is x) (Is y) = refl
-operated-is o (Is x) Lost = refl
-operated-is o Lost y = refl
+operated-is o (Is x) (Lost s) = refl
+operated-is o (Lost s) y = refl
 
 weighed-is : (f : Function) (k : ℕ) (x y : Worth) → weighedOf f k (inBytes x) (inBytes y) ≡ weighed f k x y
 weighed-is f k (Is x) (Is y) = refl
-weighed-is f k (Is x) Lost = refl
-weighed-is f k Lost y = refl
+weighed-is f k (Is x) (Lost s) = refl
+weighed-is f k (Lost s) y = refl
 
 -- the first of two records below record i ends where the second begins
 pub second-behind : (b : List ℕ) (i stop : ℕ) {second : ℕ} → second ≡ secondIn b i stop → second < stop → i + 1 < second

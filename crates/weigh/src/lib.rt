@@ -70,16 +70,16 @@ pub fn second_in(book: &[u8], i: usize, stop: usize) -> usize
     first + record::span_in(book, first, stop - first)
 }
 
-// The operator of two operands, if both are found.
+// The operator of two operands; lost as the first operand that is.
 fn operated(op: Operator, a: Word, b: Word) -> Word
     ensures { λ r. ⌜ r ≡ operatedOf op a b ⌝ }
 {
     match a {
         Word::Holds(x) => match b {
             Word::Holds(y) => sums::work(op, x, y),
-            Word::Nothing => b,
+            Word::Nothing(_) => b,
         },
-        Word::Nothing => a,
+        Word::Nothing(_) => a,
     }
 }
 
@@ -107,21 +107,20 @@ fn worth_at(book: &[u8], request: &[u8], i: usize, stop: usize) -> Word
     operated(operator_of(choice), a, b)
 }
 
-// The function of two values of one type, if both are found.
+// The function of two values of one type; Unknown as the first that is lost.
 fn weighed(f: Function, kind: usize, a: Word, b: Word) -> Truth
     ensures { λ r. ⌜ r ≡ weighedOf f kind a b ⌝ }
 {
     match a {
         Word::Holds(x) => match b {
-            Word::Holds(y) => {
-                if value::holds(f, value::value_of(kind, x), value::value_of(kind, y)) {
-                    return Truth::True;
-                }
-                Truth::False
-            }
-            Word::Nothing => Truth::Unknown,
+            Word::Holds(y) => meaning::truth_of(value::holds(
+                f,
+                value::value_of(kind, x),
+                value::value_of(kind, y),
+            )),
+            Word::Nothing(why) => Truth::Unknown(why),
         },
-        Word::Nothing => Truth::Unknown,
+        Word::Nothing(why) => Truth::Unknown(why),
     }
 }
 

@@ -1,4 +1,6 @@
 use borrow.Author.Needs.{needs}
+use mathlib.Core.Path.{ap, _∙_}
+use Rattle.meaning.specs.Numbers.{numberOf}
 use Rattle.decide.proofs.Laws.{decided-stands, decided-refused, refusal-stands}
 use Rattle.decide.proofs.outcome_line.Statement.{statement}
 use Rattle.decide.proofs.outcome_line.Tie as tie
@@ -6,8 +8,11 @@ use Rattle.decide.proofs.outcome_line.Tie as tie
 decide-requires : tie.Need-decide-requires
 decide-requires c κs = search needs
 
-enum-known-decision : tie.Need-enum-known-decision
-enum-known-decision c = search needs
+enum-known-verdict : tie.Need-enum-known-verdict
+enum-known-verdict c = search needs
+
+decision-in-requires : tie.Need-decision-in-requires
+decision-in-requires c κs = search needs
 
 number-requires : tie.Need-number-requires
 number-requires c κs = search needs
@@ -31,11 +36,11 @@ returns : tie.Need-returns
 returns c =
     let put = c .before .before in
     let numbered = put .before .before .before in
-    let decided = numbered .before .before in
+    let decided = numbered .before .before .before in
     let outcome = decided .before .before .before .before in
     let start = outcome .before .before .before .before .before .before in
     let a = start .args in
-    decided-stands (a .book .now) (a .request .now) (a .places .now) (start .pre .0) (outcome .decide .ensures .0) (outcome .decide .ensures .1) _ _ (a .out .now) (decided .decision .given .1) (numbered .number .ensures .0) (outcome .decide .kept .1 .1 .0) (start .pre .1) (put .decision-line .ensures .0) (put .decision-line .ensures .1)
+    decided-stands (a .book .now) (a .request .now) (a .places .now) (start .pre .0) (outcome .decide .ensures .0) (outcome .decide .ensures .1) _ _ (a .out .now) (decided .verdict .given .1) (numbered .number .ensures .0 ∙ ap numberOf (numbered .before .decision-in .ensures)) (outcome .decide .kept .1 .1 .0) (start .pre .1) (put .decision-line .ensures .0) (put .decision-line .ensures .1)
 
 same-length-3 : tie.Need-same-length-3
 same-length-3 c = search needs
@@ -57,7 +62,8 @@ outcome-line-spec =
     tie.close
     (tie.spec
     decide-requires
-    enum-known-decision
+    enum-known-verdict
+    decision-in-requires
     number-requires
     decision-line-requires
     enum-known-refusal

@@ -21,12 +21,14 @@ use Rattle.decider.proofs.+body+child+gather+walk.Lts-gather as gather-
 use Rattle.decider.proofs.walk.Reads as walk
 use Rattle.decider.proofs.walk.Kinds as walk-kinds
 use Rattle.decider.proofs.+body+child+gather+walk.Lts-walk as walk-lts
-use Rattle.algorithm.proofs.begin.Reads as begin-reads
 use Rattle.algorithm.proofs.outcome.Reads as outcome-reads
 use Rattle.algorithm.proofs.settles.Reads as settles-reads
-use Rattle.algorithm.proofs.take_in.Reads as take-in-reads
+use Rattle.algorithm.proofs.tally.begin.Reads as begin-reads
+use Rattle.algorithm.proofs.tally.take_in.Reads as take-in-reads
+use Rattle.algorithm.proofs.tally.verdict.Reads as verdict-reads
 use Rattle.decider.proofs.choose.Reads as choose-reads
-use Rattle.decider.proofs.is_only.Reads as is-only-reads
+use Rattle.meaning.proofs.decision_in.Reads as decision-in-reads
+use Rattle.meaning.proofs.is_only.Reads as is-only-reads
 use Rattle.meaning.proofs.is_party.Reads as is-party-reads
 use Rattle.meaning.proofs.over_policies.Reads as over-policies-reads
 use Rattle.decider.proofs.own.Reads as own-reads
@@ -76,7 +78,7 @@ abbrev walk-below : ℕ → In 3 walk-kinds.ps
 walk-below t = and 3 walk-kinds.ps (falls 3 walk-kinds.ps _<_ μ-walk t) walk.Pre
 
 abbrev body-calls : ℕ → body-lts.Claims
-body-calls t = (gather-below t, gather.Post, own-reads.Asked, own-reads.Learnt)
+body-calls t = (gather-below t, gather.Post, decision-in-reads.Asked, decision-in-reads.Learnt, own-reads.Asked, own-reads.Learnt)
 
 abbrev child-calls : ℕ → child-lts.Claims
 child-calls t = (target-reads.Asked, target-reads.Learnt, body-below t, body.Post)
@@ -85,7 +87,7 @@ abbrev gather-calls : ℕ → gather-lts.Claims
 gather-calls t = (byte-reads.Asked, byte-reads.Learnt, rules-reads.Asked, rules-reads.Learnt, over-policies-reads.Asked, over-policies-reads.Learnt, is-only-reads.Asked, is-only-reads.Learnt, choose-reads.Asked, choose-reads.Learnt, body-below t, body.Post, walk-below t, walk.Post)
 
 abbrev walk-calls : ℕ → walk-lts.Claims
-walk-calls t = (begin-reads.Asked, begin-reads.Learnt, span-in-reads.Asked, span-in-reads.Learnt, is-party-reads.Asked, is-party-reads.Learnt, child-below t, child.Post, outcome-reads.Asked, outcome-reads.Learnt, take-in-reads.Asked, take-in-reads.Learnt, stay-reads.Asked, stay-reads.Learnt, settle-reads.Asked, settle-reads.Learnt, settles-reads.Asked, settles-reads.Learnt)
+walk-calls t = (begin-reads.Asked, begin-reads.Learnt, span-in-reads.Asked, span-in-reads.Learnt, is-party-reads.Asked, is-party-reads.Learnt, child-below t, child.Post, decision-in-reads.Asked, decision-in-reads.Learnt, outcome-reads.Asked, outcome-reads.Learnt, take-in-reads.Asked, take-in-reads.Learnt, stay-reads.Asked, stay-reads.Learnt, settle-reads.Asked, settle-reads.Learnt, settles-reads.Asked, settles-reads.Learnt, verdict-reads.Asked, verdict-reads.Learnt)
 
 body-gather-requires : (t : ℕ) → body-lts.Need-gather-requires (body-calls t) (body-at t) body.Post
 body-gather-requires t c κs =
@@ -94,12 +96,12 @@ body-gather-requires t c κs =
 
 body-own-requires : (t : ℕ) → body-lts.Need-own-requires (body-calls t) (body-at t) body.Post
 body-own-requires t c κs =
-    let gathered = c .before .before .before in
+    let gathered = c .before .before .before .before in
     let start = gathered .before .before .before .before .before in
     (search needs, omega (arith, gathered .gather .ensures .puts .within, gathered .gather .kept .1 .1 .1 .1 .1 .0, start .pre .1 .2, rooms (start .args .book .now) (start .args .i + 1) (start .args .s - 1)))
 
 body-returns : (t : ℕ) → body-lts.Need-returns (body-calls t) (body-at t) body.Post
-body-returns t c = body-own _ _ _ _ (c .before .before .before .before .before .before .gather .ensures) (c .before .before .own .ensures)
+body-returns t c = body-own _ _ _ _ (c .before .before .before .before .before .before .before .gather .ensures) (c .before .before .before .before .decision-in .ensures) (c .before .before .own .ensures)
 
 child-body-requires : (t : ℕ) → child-lts.Need-body-requires (child-calls t) (child-at t) child.Post
 child-body-requires t c κs =
@@ -110,10 +112,10 @@ child-returns : (t : ℕ) → child-lts.Need-returns (child-calls t) (child-at t
 child-returns t c = child-no _ _ _ _ (c .before .before .target .ensures) _ _ _ (c .enum-told .given .1)
 
 child-returns-2 : (t : ℕ) → child-lts.Need-returns-2 (child-calls t) (child-at t) child.Post
-child-returns-2 t c = child-lost _ _ _ _ (c .before .before .target .ensures) _ _ _ (c .enum-told2 .given .1)
+child-returns-2 t c = child-lost _ _ _ _ (c .before .before .before .target .ensures) _ _ _ (c .before .t .given .1)
 
 child-returns-3 : (t : ℕ) → child-lts.Need-returns-3 (child-calls t) (child-at t) child.Post
-child-returns-3 t c = child-yes _ _ _ _ (c .before .before .before .before .before .before .target .ensures) (c .before .before .before .before .enum-told3 .given .1) (c .before .before .body .ensures)
+child-returns-3 t c = child-yes _ _ _ _ (c .before .before .before .before .before .before .target .ensures) (c .before .before .before .before .enum-told2 .given .1) (c .before .before .body .ensures)
 
 gather-returns : (t : ℕ) → gather-lts.Need-returns (gather-calls t) (gather-at t) gather.Post
 gather-returns t c = gather-rules _ _ _ _ (c .before .before .before .byte .ensures .0) (c .before .before .byte2 .ensures .0) _ _ _ (c .before .if1 .taken) (c .rules .ensures)
@@ -122,14 +124,14 @@ gather-sub-body : (t : ℕ) → gather-lts.Need-sub-body (gather-calls t) (gathe
 gather-sub-body t c =
     let set = c .before .before .before .before .before .before .before in
     let start = set .before .before .before .before .before .before in
-    let w = picked-one _ _ _ _ (c .before .before .before .choose .ensures) (c .before .p .given .1) in
+    let w = picked-one _ _ _ _ (c .before .before .before .choose .ensures) (c .before .p2 .given .1) in
     omega (arith, w .applies .nest, start .pre .1 .3)
 
 gather-body-requires : (t : ℕ) → gather-lts.Need-body-requires (gather-calls t) (gather-at t) gather.Post
 gather-body-requires t c κs =
     let set = c .before .before .before .before .before .before .before .before in
     let start = set .before .before .before .before .before .before in
-    let w = picked-one _ _ _ _ (c .before .before .before .before .choose .ensures) (c .before .before .p .given .1) in
+    let w = picked-one _ _ _ _ (c .before .before .before .before .choose .ensures) (c .before .before .p2 .given .1) in
     (omega (arith, w .applies .fits, start .pre .1 .0), (w .applies .there, omega (arith, w .applies .ends, start .pre .1 .0, start .pre .1 .1), omega (arith, w .applies .room, start .pre .1 .2), omega (arith, w .applies .nest, start .pre .1 .3)))
 
 gather-returns-2 : (t : ℕ) → gather-lts.Need-returns-2 (gather-calls t) (gather-at t) gather.Post
@@ -140,16 +142,16 @@ gather-returns-2 t c =
 
 gather-returns-3 : (t : ℕ) → gather-lts.Need-returns-3 (gather-calls t) (gather-at t) gather.Post
 gather-returns-3 t c =
-    let only = c .before .before .before in
+    let only = c .before .before .before .before in
     let set = only .before .before .before in
-    gather-many _ _ _ _ (set .before .before .byte .ensures .0) (set .before .byte2 .ensures .0) (set .if1 .left) (only .before .before .over-policies .ensures) (only .before .is-only .ensures) (only .if2 .taken) _ _ _ (c .before .before .choose .ensures) (c .enum-told2 .given .1)
+    gather-many _ _ _ _ (set .before .before .byte .ensures .0) (set .before .byte2 .ensures .0) (set .if1 .left) (only .before .before .over-policies .ensures) (only .before .is-only .ensures) (only .if2 .taken) _ _ _ (c .before .before .before .choose .ensures) (c .before .p .given .1)
 
 gather-returns-4 : (t : ℕ) → gather-lts.Need-returns-4 (gather-calls t) (gather-at t) gather.Post
 gather-returns-4 t c =
     let one = c .before .before .before .before .before in
     let only = one .before .before .before in
     let set = only .before .before .before in
-    let w = picked-one _ _ _ _ (one .before .before .choose .ensures) (one .p .given .1) in
+    let w = picked-one _ _ _ _ (one .before .before .choose .ensures) (one .p2 .given .1) in
     gather-one _ _ _ _ (set .before .before .byte .ensures .0) (set .before .byte2 .ensures .0) (set .if1 .left) (only .before .before .over-policies .ensures) (only .before .is-only .ensures) (only .if2 .taken) w (c .before .before .body .ensures)
 
 gather-walk-requires : (t : ℕ) → gather-lts.Need-walk-requires (gather-calls t) (gather-at t) gather.Post
@@ -164,10 +166,10 @@ gather-returns-5 t c =
     gather-walk _ _ _ _ (set .before .before .byte .ensures .0) (set .before .byte2 .ensures .0) (set .if1 .left) (c .before .before .before .before .before .before .over-policies .ensures) (c .before .before .walk .ensures)
 
 abbrev walk-Inv-loop : walk-lts.InvT-loop
-walk-Inv-loop book request from count a depth out₀ n i₀ left₀ acc₀ m₀ out i left acc m = (i + left ≡ from + count) × (left ≤ count) × Sofar book (bagsOf request) a out₀ n from count i left acc out m × (height (forest book i left) ≤ depth)
+walk-Inv-loop book request from count a depth out₀ n i₀ left₀ k₀ m₀ out i left k m = (i + left ≡ from + count) × (left ≤ count) × Sofar book (bagsOf request) a out₀ n from count i left k out m × (height (forest book i left) ≤ depth)
 
 abbrev walk-μ-loop : walk-lts.MeasureT-loop
-walk-μ-loop book request from count a depth out₀ n i₀ left₀ acc₀ m₀ out i left acc m = left
+walk-μ-loop book request from count a depth out₀ n i₀ left₀ k₀ m₀ out i left k m = left
 
 walk-loop-holds : (t : ℕ) → walk-lts.Need-loop-holds (walk-calls t) (walk-at t) walk.Post walk-Inv-loop walk-μ-loop
 walk-loop-holds t c = (refl, omega arith, walk-start _ _ _ _ _ _ _ (c .before .before .before .before .pre .1 .3) (c .begin .ensures), c .before .before .before .before .pre .1 .2)
@@ -190,7 +192,7 @@ walk-child-requires t c κs =
 
 walk-settle-requires : (t : ℕ) → walk-lts.Need-settle-requires (walk-calls t) (walk-at t) walk.Post walk-Inv-loop walk-μ-loop
 walk-settle-requires t c κs =
-    let decided = c .before .before .before .before .before .before .before .before in
+    let decided = c .before .before .before .before .before .before .before .before .before in
     let spanned = decided .before .before .before .before in
     let turn = spanned .before in
     let start = turn .before .before .before .before .before .before in
@@ -199,34 +201,40 @@ walk-settle-requires t c κs =
 
 walk-same-length : (t : ℕ) → walk-lts.Need-same-length (walk-calls t) (walk-at t) walk.Post walk-Inv-loop walk-μ-loop
 walk-same-length t c =
-    let settled = c .before .before .before .before in
+    let settled = c .before .before .before .before .before in
     let stood = settled .before .before .before .before .before .before in
-    let decided = stood .before .before .before in
+    let decided = stood .before .before .before .before in
     settled .settle .kept .0 ∙ decided .child .kept .1 .1 .1 .1 .1 .0 ∙ decided .before .before .before .before .before .before .loop .inv .2 .kept
 
 walk-returns : (t : ℕ) → walk-lts.Need-returns (walk-calls t) (walk-at t) walk.Post walk-Inv-loop walk-μ-loop
 walk-returns t c =
-    let settled = c .before .before .before .before in
+    let settled = c .before .before .before .before .before in
     let stood = settled .before .before .before .before .before .before in
-    let decided = stood .before .before .before in
+    let decided = stood .before .before .before .before in
     let spanned = decided .before .before .before .before in
     let turn = spanned .before in
     let start = turn .before .before .before .before .before .before in
     let sofar = turn .before .loop .inv .2 in
-    walk-stop (start .pre .1 .3) sofar (turn .loop-test .taken) (spanned .span-in .ensures .0) (decided .before .before .before .is-party .ensures) (not-false _ (decided .before .before .if1 .left)) (decided .child .ensures) (decided .child .kept .1 .1 .1 .1 .1 .0) (stood .outcome .ensures) (settled .before .before .before .before .before .take-in .ensures) (settled .before .before .before .before .outcome2 .ensures) (settled .before .before .stay .ensures) (settled .before .stay2 .ensures) (c .before .settles .ensures) (settled .settle .ensures) (omega (arith, start .pre .1 .1)) (omega (arith, sofar .room, sofar .kept, start .pre .1 .1)) (c .if2 .taken)
+    walk-stop (start .pre .1 .3) sofar (turn .loop-test .taken) (spanned .span-in .ensures .0) (decided .before .before .before .is-party .ensures) (not-false _ (decided .before .before .if1 .left)) (decided .child .ensures) (decided .child .kept .1 .1 .1 .1 .1 .0) (stood .before .decision-in .ensures) (stood .outcome .ensures) (settled .before .before .before .before .before .take-in .ensures) (settled .before .before .before .before .outcome2 .ensures) (settled .before .before .stay .ensures) (settled .before .stay2 .ensures) (c .before .before .settles .ensures) (settled .settle .ensures) (omega (arith, start .pre .1 .1)) (omega (arith, sofar .room, sofar .kept, start .pre .1 .1)) (c .before .if2 .taken) (c .verdict .ensures)
+
+walk-sub-left-2 : (t : ℕ) → walk-lts.Need-sub-left-2 (walk-calls t) (walk-at t) walk.Post walk-Inv-loop walk-μ-loop
+walk-sub-left-2 t c = let spanned = c .before .before .before .before .before .before .before .before .before .before .before .before .before .before .before .before .before .before in omega (arith, spanned .span-in .ensures .1 .1)
+
+walk-loop-less-2 : (t : ℕ) → walk-lts.Need-loop-less-2 (walk-calls t) (walk-at t) walk.Post walk-Inv-loop walk-μ-loop
+walk-loop-less-2 t c = let spanned = c .before .before .before .before .before .before .before .before .before .before .before .before .before .before .before .before .before .before in omega (arith, spanned .span-in .ensures .1 .0, spanned .span-in .ensures .1 .1)
 
 walk-loop-again-2 : (t : ℕ) → walk-lts.Need-loop-again-2 (walk-calls t) (walk-at t) walk.Post walk-Inv-loop walk-μ-loop
 walk-loop-again-2 t c =
     let settled = c .before .before .before .before in
     let stood = settled .before .before .before .before .before .before in
-    let decided = stood .before .before .before in
+    let decided = stood .before .before .before .before in
     let spanned = decided .before .before .before .before in
     let turn = spanned .before in
     let start = turn .before .before .before .before .before .before in
     let sofar = turn .before .loop .inv .2 in (
       omega (arith, turn .before .loop .inv .0, spanned .span-in .ensures .1 .1),
       omega (arith, turn .before .loop .inv .1),
-      walk-turn (start .pre .1 .3) sofar (turn .loop-test .taken) (spanned .span-in .ensures .0) (decided .before .before .before .is-party .ensures) (not-false _ (decided .before .before .if1 .left)) (decided .child .ensures) (decided .child .kept .1 .1 .1 .1 .1 .0) (stood .outcome .ensures) (settled .before .before .before .before .before .take-in .ensures) (settled .before .before .before .before .outcome2 .ensures) (settled .before .before .stay .ensures) (settled .before .stay2 .ensures) (c .before .settles .ensures) (settled .settle .ensures) (omega (arith, start .pre .1 .1)) (omega (arith, sofar .room, sofar .kept, start .pre .1 .1)) (settled .settle .kept .0) (c .if2 .left),
+      walk-turn (start .pre .1 .3) sofar (turn .loop-test .taken) (spanned .span-in .ensures .0) (decided .before .before .before .is-party .ensures) (not-false _ (decided .before .before .if1 .left)) (decided .child .ensures) (decided .child .kept .1 .1 .1 .1 .1 .0) (stood .before .decision-in .ensures) (stood .outcome .ensures) (settled .before .before .before .before .before .take-in .ensures) (settled .before .before .before .before .outcome2 .ensures) (settled .before .before .stay .ensures) (settled .before .stay2 .ensures) (c .before .settles .ensures) (settled .settle .ensures) (omega (arith, start .pre .1 .1)) (omega (arith, sofar .room, sofar .kept, start .pre .1 .1)) (settled .settle .kept .0) (c .if2 .left),
       omega (arith, turn .before .loop .inv .3, nest-rest _ _ _ (turn .loop-test .taken) (spanned .span-in .ensures .0)),
     )
 
@@ -234,7 +242,7 @@ walk-same-length-2 : (t : ℕ) → walk-lts.Need-same-length-2 (walk-calls t) (w
 walk-same-length-2 t c = c .before .before .loop .inv .2 .kept
 
 walk-returns-2 : (t : ℕ) → walk-lts.Need-returns-2 (walk-calls t) (walk-at t) walk.Post walk-Inv-loop walk-μ-loop
-walk-returns-2 t c = walk-end (c .before .before .before .before .before .before .before .pre .1 .3) (c .before .before .loop .inv .2) (c .before .loop-test .left) (c .outcome3 .ensures)
+walk-returns-2 t c = walk-end (c .before .before .before .before .before .before .before .pre .1 .3) (c .before .before .loop .inv .2) (c .before .loop-test .left) (c .verdict2 .ensures)
 
 pub +body+child+gather+walk-spec : {M : Type 1} → statement M
 +body+child+gather+walk-spec = close μ-body μ-child μ-gather μ-walk (λ t. body-lts.spec (body-calls t)
@@ -243,6 +251,7 @@ pub +body+child+gather+walk-spec : {M : Type 1} → statement M
     (body-gather-requires t)
     (λ c. search needs)
     (λ c. search needs)
+    (λ c κs. search needs)
     (body-own-requires t)
     (λ c. search needs)
     (body-returns t))
@@ -310,12 +319,14 @@ pub +body+child+gather+walk-spec : {M : Type 1} → statement M
     (λ c κs. search needs)
     (λ c κs. search needs)
     (λ c κs. search needs)
+    (λ c κs. search needs)
     (walk-settle-requires t)
+    (λ c κs. search needs)
     (λ c κs. search needs)
     (walk-same-length t)
     (walk-returns t)
-    (λ c. search needs)
-    (λ c. search needs)
+    (walk-sub-left-2 t)
+    (walk-loop-less-2 t)
     (walk-loop-again-2 t)
     (λ c κs. search needs)
     (walk-same-length-2 t)

@@ -13,15 +13,15 @@ refusal-number-requires : tie.Need-refusal-number-requires
 refusal-number-requires c κs = refused-line _ _ _ (sym (c .before .before .before .before .before .decide .ensures .0) ∙ c .before .r .given .1)
 
 -- the obligations of a decision fit the places, the output and a book
-fits : (decision : tie.After-d) →
+fits : (decision : tie.After-v) →
     let outcome = decision .before .before .before .before in
-    let count = decision .d .given .0 .1 .0 in
+    let count = decision .v .given .0 .1 .0 in
     (count ≤ length (outcome .decide .last .1 .1 .0)) × (count * 2 ≤ length (outcome .before .before .before .before .before .before .args .out .now)) × (count ≤ mostRecords)
 fits decision =
     let outcome = decision .before .before .before .before in
     let start = outcome .before .before .before .before .before .before in
     let a = start .args in
-    host-fits (a .book .now) (a .request .now) (a .places .now) (a .out .now) (start .pre) (outcome .decide .ensures .0) (decision .d .given .1) (outcome .decide .ensures .1) (outcome .decide .kept .1 .1 .0)
+    host-fits (a .book .now) (a .request .now) (a .places .now) (a .out .now) (start .pre) (outcome .decide .ensures .0) (decision .v .given .1) (outcome .decide .ensures .1) (outcome .decide .kept .1 .1 .0)
 
 put-pairs-requires : tie.Need-put-pairs-requires
 put-pairs-requires c κs = let w = fits (c .before .before .before) in (w .0, w .1)
@@ -53,7 +53,7 @@ returns-2 c =
     let outcome = decision .before .before .before .before in
     let start = outcome .before .before .before .before .before .before in
     let a = start .args in
-    host-decided (a .book .now) (a .request .now) (a .places .now) (a .out .now) (start .pre) (outcome .decide .ensures .0) (decision .d .given .1) (outcome .decide .ensures .1) (outcome .decide .kept .1 .1 .0) (put .put-pairs .ensures) (put .put-pairs .kept .1 .1 .0) (c .before .before .before .clear .ensures) (c .decided .ensures)
+    host-decided (a .book .now) (a .request .now) (a .places .now) (a .out .now) (start .pre) (outcome .decide .ensures .0) (decision .v .given .1) (outcome .decide .ensures .1) (outcome .decide .kept .1 .1 .0) (put .put-pairs .ensures) (put .put-pairs .kept .1 .1 .0) (c .before .before .before .clear .ensures) (c .decided .ensures)
 
 pub decide-in-spec : {M : Type 1} → statement M
 decide-in-spec =

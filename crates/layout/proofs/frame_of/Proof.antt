@@ -6,7 +6,7 @@ use Rattle.layout.proofs.frame_of.Tie as tie
 
 returns : tie.Need-returns
 unfolding frameOf
-returns c = (rw (c .acc-by .ensures, c .before .algorithm-by .ensures), (omega arith, omega arith))
+returns c = (rw (c .cause-by .ensures, c .before .acc-by .ensures, c .before .before .algorithm-by .ensures), (omega arith, omega arith))
 
 pub frame-of-spec : {M : Type 1} → statement M
-frame-of-spec = tie.close (tie.spec (λ c κs. search needs) (λ c κs. search needs) returns)
+frame-of-spec = tie.close (tie.spec (λ c κs. search needs) (λ c κs. search needs) (λ c κs. search needs) returns)

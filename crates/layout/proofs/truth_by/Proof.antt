@@ -13,7 +13,11 @@ returns-2 c = rw (c .match .keys2)
 
 returns-3 : tie.Need-returns-3
 unfolding truthBy
-returns-3 c = let n = c .match .rest in rw (ne-eqb _ 0 (n .0 .1), ne-eqb _ 1 (n .1))
+returns-3 c = rw (c .match .keys3)
+
+returns-4 : tie.Need-returns-4
+unfolding truthBy
+returns-4 c = let n = c .match .rest in rw (ne-eqb _ 0 (n .0 .0 .1), ne-eqb _ 1 (n .0 .1), ne-eqb _ 2 (n .1))
 
 pub truth-by-spec : {M : Type 1} → statement M
-truth-by-spec = tie.close (tie.spec returns returns-2 returns-3)
+truth-by-spec = tie.close (tie.spec returns returns-2 returns-3 returns-4)

@@ -5,7 +5,7 @@ use Rattle.layout.proofs.unpack.Tie as tie
 
 returns : tie.Need-returns
 unfolding unpackOf
-returns c = rw (c .before .before .before .decision-by .ensures, c .before .before .truth-by .ensures, c .before .truth-by2 .ensures, c .truth-by3 .ensures)
+returns c = rw (c .before .before .before .verdict-by .ensures, c .before .before .truth-by .ensures, c .before .truth-by2 .ensures, c .truth-by3 .ensures)
 
 pub unpack-spec : {M : Type 1} → statement M
 unpack-spec =

@@ -6,7 +6,7 @@ use Rattle.record.specs.Forest.{forest}
 use Rattle.meaning.specs.Logic.{andAll, andOf}
 use Rattle.meaning.specs.Meaning.{matchOf, conjunctionOf}
 use Rattle.meaning.specs.Reading.{conjunctionAt, bagsOf}
-use Rattle.rules.proofs.Loops.{ands, then, turn, stop, end}
+use Rattle.rules.proofs.Loops.{ands, ands-settle, then, turn, stop, end}
 use Rattle.rules.proofs.Laws.{truths, truths-none, matchRead, matches-more, conjunction-all}
 use Rattle.rules.proofs.conjunction.Statement.{statement}
 use Rattle.rules.proofs.conjunction.Tie as tie
@@ -24,7 +24,7 @@ unfolding then
 loop-holds c = (omega (arith, c .children-at .ensures .1), conjunction-all _ _ _ _ (c .before .before .before .pre .0) (c .children-at .ensures .0))
 
 returns : tie.Need-returns Inv-loop μ-loop
-returns c = stop ands _ (matches-more _ _ _ (c .before .before .before .before .before .loop-test .taken) (c .before .before .before .before .span-in .ensures .0) _ (c .before .before .before .match-at .ensures) (c .before .before .matches .ensures)) (c .enum-told .given .1) (c .before .before .before .before .before .before .loop .inv .1)
+returns c = stop ands _ (matches-more _ _ _ (c .before .before .before .before .before .loop-test .taken) (c .before .before .before .before .span-in .ensures .0) _ (c .before .before .before .match-at .ensures) (c .before .before .matches .ensures)) ands-settle (c .enum-told .given .1) (c .before .before .before .before .before .before .loop .inv .1)
 
 loop-again : tie.Need-loop-again Inv-loop μ-loop
 loop-again c = (omega arith, turn ands _ (matches-more _ _ _ (c .before .before .before .before .before .loop-test .taken) (c .before .before .before .before .span-in .ensures .0) _ (c .before .before .before .match-at .ensures) (c .before .before .matches .ensures)) (c .and3 .ensures) (c .before .before .before .before .before .before .loop .inv .1))

@@ -3,19 +3,19 @@ use native.Mathlib.Omega.{arith}
 use mathlib.Core.Path.{_≡_, refl}
 use Prim.Native.Nat.{_+_, _≤_}
 use Rattle.record.specs.Forest.{forest}
-use Rattle.meaning.specs.Meaning.{overRules, combine, ruleChildren}
+use Rattle.meaning.specs.Meaning.{overRules, verdictOf, ruleChildren}
 use Rattle.meaning.specs.Reading.{rulesBy, rulesIn, bagsOf}
 use Rattle.rules.proofs.Laws.{ruled, rules-all, rules-end, not-only, rules-skip, rules-stop, rules-turn}
 use Rattle.rules.proofs.rules.Statement.{statement}
 use Rattle.rules.proofs.rules.Tie as tie
 
 abbrev Inv-loop : tie.InvT-loop
-Inv-loop book request from count choice a i₀ left₀ acc₀ i left acc =
+Inv-loop book request from count choice a i₀ left₀ k₀ i left k =
     (i + left ≡ from + count) × (left ≤ count)
-    × (ruled book (bagsOf request) a acc (forest book i left) ≡ combine (overRules (rulesBy choice)) (ruleChildren (bagsOf request) (rulesIn book (forest book from count))))
+    × (ruled book (bagsOf request) a k (forest book i left) ≡ verdictOf (overRules (rulesBy choice)) (ruleChildren (bagsOf request) (rulesIn book (forest book from count))))
 
 abbrev μ-loop : tie.MeasureT-loop
-μ-loop book request from count choice a i₀ left₀ acc₀ i left acc = left
+μ-loop book request from count choice a i₀ left₀ k₀ i left k = left
 
 loop-holds : tie.Need-loop-holds Inv-loop μ-loop
 loop-holds c = (refl, omega arith, rules-all _ _ _ _ (rulesBy (c .before .before .before .before .args .choice)) (c .before .over-rules .ensures) (c .begin .ensures))
@@ -31,7 +31,7 @@ returns c =
     let start = turn .before .before .before .before .before in
     rules-stop _ _ _ _ _ _ (kind .before .before .loop-test .taken) (kind .before .span-in .ensures .0) (kind .byte .ensures .0) (turn .loop .inv .2) (rule .before .before .before .if1 .left)
     (not-only _ (rulesBy (start .args .choice)) (turn .before .before .over-rules .ensures)) (rule .before .before .byte2 .ensures .0) (rule .before .effect-of .ensures) (rule .rule .ensures)
-    (c .before .before .before .take-in .ensures) (c .before .before .settles .ensures) (c .before .if2 .taken) (c .outcome .ensures)
+    (c .before .before .before .take-in .ensures) (c .before .before .settles .ensures) (c .before .if2 .taken) (c .verdict .ensures)
 
 loop-again-2 : tie.Need-loop-again-2 Inv-loop μ-loop
 loop-again-2 c =
@@ -47,7 +47,7 @@ loop-again-2 c =
     )
 
 returns-2 : tie.Need-returns-2 Inv-loop μ-loop
-returns-2 c = rules-end _ _ _ _ _ _ (c .before .loop-test .left) (c .outcome2 .ensures) (c .before .before .loop .inv .2)
+returns-2 c = rules-end _ _ _ _ _ _ (c .before .loop-test .left) (c .verdict2 .ensures) (c .before .before .loop .inv .2)
 
 pub rules-spec : {M : Type 1} → statement M
 rules-spec =

@@ -6,7 +6,7 @@ use Rattle.record.specs.Forest.{forest}
 use Rattle.meaning.specs.Logic.{orAll, orOf}
 use Rattle.meaning.specs.Meaning.{conjunctionOf, sectionOf}
 use Rattle.meaning.specs.Reading.{conjunctionAt, sectionAt, bagsOf}
-use Rattle.rules.proofs.Loops.{ors, then, turn, stop, end}
+use Rattle.rules.proofs.Loops.{ors, ors-settle, then, turn, stop, end}
 use Rattle.rules.proofs.Laws.{truths, truths-none, conjunctions-more, section-all}
 use Rattle.rules.proofs.section.Statement.{statement}
 use Rattle.rules.proofs.section.Tie as tie
@@ -24,7 +24,7 @@ unfolding then
 loop-holds c = (omega (arith, c .children-at .ensures .1), section-all _ _ _ _ (c .before .before .before .pre .0) (c .children-at .ensures .0))
 
 returns : tie.Need-returns Inv-loop μ-loop
-returns c = stop ors _ (conjunctions-more _ _ _ (c .before .before .before .before .loop-test .taken) (c .before .before .before .span-in .ensures .0) _ (c .before .before .conjunction .ensures)) (c .enum-told .given .1) (c .before .before .before .before .before .loop .inv .1)
+returns c = stop ors _ (conjunctions-more _ _ _ (c .before .before .before .before .loop-test .taken) (c .before .before .before .span-in .ensures .0) _ (c .before .before .conjunction .ensures)) ors-settle (c .enum-told .given .1) (c .before .before .before .before .before .loop .inv .1)
 
 loop-again : tie.Need-loop-again Inv-loop μ-loop
 loop-again c = (omega arith, turn ors _ (conjunctions-more _ _ _ (c .before .before .before .before .loop-test .taken) (c .before .before .before .span-in .ensures .0) _ (c .before .before .conjunction .ensures)) (c .or3 .ensures) (c .before .before .before .before .before .loop .inv .1))

@@ -6,7 +6,7 @@ use Rattle.record.specs.Forest.{forest}
 use Rattle.meaning.specs.Logic.{targetAll, targetAnd}
 use Rattle.meaning.specs.Meaning.{sectionsOf, targetOf}
 use Rattle.meaning.specs.Reading.{targetIn, bagsOf}
-use Rattle.rules.proofs.Loops.{targets, then, turn, stop, end}
+use Rattle.rules.proofs.Loops.{targets, targets-stop, then, turn, end}
 use Rattle.rules.proofs.Laws.{sections-more, sections-over, sections-none}
 use Rattle.rules.proofs.target.Statement.{statement}
 use Rattle.rules.proofs.target.Tie as tie
@@ -27,10 +27,12 @@ returns : tie.Need-returns Inv-loop μ-loop
 returns c = end targets _ (sections-over _ _ _ _ (c .before .before .loop-test .taken) (c .before .byte .ensures .0) (c .if1 .taken)) (c .before .before .before .loop .inv .2)
 
 returns-2 : tie.Need-returns-2 Inv-loop μ-loop
-returns-2 c = stop targets _ (sections-more _ _ _ (c .before .before .before .before .before .before .loop-test .taken) (c .before .before .before .span-in .ensures .0) _ (c .before .before .before .before .before .byte .ensures .0) (c .before .before .before .before .if1 .left) (c .before .before .section .ensures)) (c .enum-told .given .1) (c .before .before .before .before .before .before .before .loop .inv .2)
+returns-2 c =
+    let read = c .before .before .before in
+    targets-stop _ _ (c .enum-told .given .1) (turn targets _ (sections-more _ _ _ (read .before .before .before .before .loop-test .taken) (read .before .span-in .ensures .0) _ (read .before .before .before .byte .ensures .0) (read .before .before .if1 .left) (read .section .ensures)) (c .before .before .target3 .ensures) (read .before .before .before .before .before .loop .inv .2))
 
 loop-again : tie.Need-loop-again Inv-loop μ-loop
-loop-again c = (omega arith, omega arith, turn targets _ (sections-more _ _ _ (c .before .before .before .before .before .before .loop-test .taken) (c .before .before .before .span-in .ensures .0) _ (c .before .before .before .before .before .byte .ensures .0) (c .before .before .before .before .if1 .left) (c .before .before .section .ensures)) (c .target3 .ensures) (c .before .before .before .before .before .before .before .loop .inv .2))
+loop-again c = (omega arith, omega arith, turn targets _ (sections-more _ _ _ (c .before .before .before .before .before .before .loop-test .taken) (c .before .before .before .span-in .ensures .0) _ (c .before .before .before .before .before .byte .ensures .0) (c .before .before .before .before .if1 .left) (c .before .before .section .ensures)) (c .before .target3 .ensures) (c .before .before .before .before .before .before .before .loop .inv .2))
 
 returns-3 : tie.Need-returns-3 Inv-loop μ-loop
 returns-3 c = end targets _ (sections-none _ _ _ (c .loop-test .left) _) (c .before .loop .inv .2)
@@ -46,9 +48,9 @@ target-spec =
     returns
     (λ c κs. search needs)
     (λ c κs. search needs)
+    (λ c κs. search needs)
     (λ c. search needs)
     returns-2
-    (λ c κs. search needs)
     (λ c. search needs)
     (λ c. search needs)
     (λ c. search needs)

@@ -17,7 +17,7 @@ returns : tie.Need-returns
 returns c = let s = c .before .before in ap Holds (c .bytes-of .ensures) ∙ ap inBytes (sym (s .v .given .1) ∙ s .before .before .operate .ensures)
 
 returns-2 : tie.Need-returns-2
-returns-2 c = ap inBytes (sym (c .enum-told .given .1) ∙ c .before .before .operate .ensures)
+returns-2 c = ap inBytes (sym (c .before .why .given .1) ∙ c .before .before .before .operate .ensures)
 
 pub work-spec : {M : Type 1} → statement M
 work-spec =

@@ -3,7 +3,7 @@ use Rattle.moves.proofs.policies.note_in.Statement.{statement}
 use Rattle.moves.proofs.policies.note_in.Tie as tie
 
 frame-word-requires : tie.Need-frame-word-requires
-frame-word-requires c κs = rw (c .put-in .ensures) (c .before .before .before .pre)
+frame-word-requires c κs = rw (c .put-in .ensures) (c .before .before .before .before .pre)
 
 returns : tie.Need-returns
 returns c = rw (c .moving .ensures, c .before .cleared .ensures, c .before .before .frame-word .ensures, c .before .before .before .put-in .ensures, c .before .before .before .before .enum-told .given .1)

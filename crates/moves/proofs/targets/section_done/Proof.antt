@@ -10,7 +10,7 @@ returns-2 : tie.Need-returns-2
 returns-2 c = let a = c .before .before .before .before .args in section-false _ _ _ (a .last) (a .j) (a .x) (a .t) (a .d) (c .before .before .enum-told2 .given .1) (c .before .target3 .ensures) (c .section-held2 .ensures)
 
 returns-3 : tie.Need-returns-3
-returns-3 c = rw (c .before .enum-told3 .given .1) (c .cleared .ensures)
+returns-3 c = rw (c .before .before .enum-told3 .given .1, ← c .before .before .enum-told3 .given .1, ← c .before .target32 .ensures) (c .target-done .ensures)
 
 pub section-done-spec : {M : Type 1} → statement M
 section-done-spec =
@@ -22,6 +22,7 @@ section-done-spec =
     (λ c κs. search needs)
     (λ c κs. search needs)
     (λ c. search needs)
+    (λ c κs. search needs)
     (λ c κs. search needs)
     returns
     returns-2

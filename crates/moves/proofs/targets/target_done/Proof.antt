@@ -9,7 +9,7 @@ returns-2 : tie.Need-returns-2
 returns-2 c = rw (c .before .enum-told2 .given .1) (c .cleared2 .ensures)
 
 returns-3 : tie.Need-returns-3
-returns-3 c = rw (c .before .enum-told3 .given .1) (c .cleared3 .ensures)
+returns-3 c = rw (c .before .before .t .given .1) (c .cleared3 .ensures)
 
 pub target-done-spec : {M : Type 1} → statement M
 target-done-spec =

@@ -1,3 +1,5 @@
+use mathlib.Core.Path.{ap, _∙_}
+use Rattle.meaning.specs.Numbers.{numberOf}
 use lib.ListN.{length-set}
 use native.Mathlib.Omega.{arith}
 use borrow.Author.Needs.{needs}
@@ -19,6 +21,9 @@ slice-write-out-3 c = simp length-set (omega arith)
 
 enum-known-answer : tie.Need-enum-known-answer
 enum-known-answer c = search needs
+
+decision-in-requires : tie.Need-decision-in-requires
+decision-in-requires c κs = search needs
 
 number-requires : tie.Need-number-requires
 number-requires c κs = search needs
@@ -45,9 +50,9 @@ returns-2 : tie.Need-returns-2
 returns-2 c =
     let put = c .before .before in
     let numbered = put .before .before in
-    let answered = numbered .before .before in
+    let answered = numbered .before .before .before in
     let start = answered .before .before .before .before in
-    finished-put (start .args .out .now) (start .args .places .now) (start .pre .1) (start .pre .0) _ _ (answered .answer .given .1) (numbered .number .ensures .0) (put .decision-line .ensures .0) (put .decision-line .ensures .1)
+    finished-put (start .args .out .now) (start .args .places .now) (start .pre .1) (start .pre .0) _ _ (answered .answer .given .1) (numbered .number .ensures .0 ∙ ap numberOf (numbered .before .decision-in .ensures)) (put .decision-line .ensures .0) (put .decision-line .ensures .1)
 
 same-length-3 : tie.Need-same-length-3
 same-length-3 c = search needs
@@ -68,6 +73,7 @@ answer-line-spec =
     slice-write-out-2
     slice-write-out-3
     enum-known-answer
+    decision-in-requires
     number-requires
     decision-line-requires
     enum-known-answer-2

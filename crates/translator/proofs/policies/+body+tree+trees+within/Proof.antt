@@ -3,9 +3,8 @@ use mathlib.Core.Path.{_≡_, refl, sym, _∙_}
 use lib.ListN.{length}
 use native.Mathlib.Omega.{arith}
 use borrow.Author.Needs.{needs}
-use Rattle.meaning.specs.Meaning.{overPolicies}
+use Rattle.meaning.specs.Meaning.{overPolicies, isOnly}
 use Rattle.meaning.specs.Reading.{policiesBy}
-use Rattle.algorithm.specs.Fold.{isOnly}
 use Rattle.code.specs.Code.{codeApplies}
 use Rattle.emission.specs.Emit.{obligationsCode, bodyCode}
 use Rattle.elders.proofs.Links.{piece-of, linked-at, linked-below}
