@@ -13,8 +13,8 @@ use Rattle.value.specs.declared.Function.{Function}
 use Rattle.value.specs.declared.Function.the-variants.{Equal, Greater, GreaterOrEqual, Less, LessOrEqual}
 use Rattle.sums.specs.declared.Operator.{Operator}
 use Rattle.sums.specs.declared.Operator.the-variants.{Add, Subtract, Multiply, Divide, Remainder, DoubleAdd}
-use Rattle.sums.specs.declared.Status.{Status}
 use Rattle.sums.specs.declared.Status.the-variants.{Missing, Processing}
+use Rattle.meaning.proofs.Small.{status-small}
 use Rattle.meaning.specs.declared.Truth.{Truth}
 use Rattle.meaning.specs.declared.Truth.the-variants.{True, False, Unknown}
 use Rattle.meaning.specs.declared.Effect.{Effect}
@@ -35,7 +35,7 @@ use Rattle.layout.specs.declared.Op.the-variants.{All, Any, Not}
 use Rattle.layout.specs.declared.Level.{Level}
 use Rattle.layout.specs.declared.Frame.{Frame}
 use Rattle.layout.specs.declared.Head.{Head}
-use Rattle.layout.specs.Layout.{bitOf, statusCode, truthCode, truthBy, causeCode, causeBy, decisionCode, decisionBy, verdictCode, verdictBy, effectCode, effectBy, opCode, opBy, algorithmCode, algorithmBy, functionCode, operatorCode, operatorBy, rankBy, accCode, accBy, levelOf, levelWord, frameOf, frameWord, unpackOf, packOf, allowed}
+use Rattle.layout.specs.Layout.{bitOf, truthCode, truthBy, causeCode, causeBy, decisionCode, decisionBy, verdictCode, verdictBy, effectCode, effectBy, opCode, opBy, algorithmCode, algorithmBy, functionCode, operatorCode, operatorBy, rankBy, accCode, accBy, levelOf, levelWord, frameOf, frameWord, unpackOf, packOf, allowed}
 use Rattle.layout.specs.Ranges.{Held, Ranged}
 use Rattle.layout.specs.Room.{roomP}
 
@@ -46,10 +46,6 @@ truth-back True = refl
 truth-back False = refl
 truth-back (Unknown Missing) = refl
 truth-back (Unknown Processing) = refl
-
-status-small : (s : Status) → statusCode s ≤ 1
-status-small Missing = omega arith
-status-small Processing = omega arith
 
 pub truth-small : (t : Truth) → truthCode t ≤ 3
 truth-small True = omega arith

@@ -10,8 +10,8 @@ use Rattle.value.specs.declared.Function.{Function}
 use Rattle.value.specs.declared.Function.the-variants.{Equal, Greater, GreaterOrEqual, Less, LessOrEqual}
 use Rattle.sums.specs.declared.Operator.{Operator}
 use Rattle.sums.specs.declared.Operator.the-variants.{Add, Subtract, Multiply, Divide, Remainder, DoubleAdd}
-use Rattle.sums.specs.declared.Status.{Status}
 use Rattle.sums.specs.declared.Status.the-variants.{Missing, Processing}
+use Rattle.meaning.specs.Numbers.{statusNumber}
 use Rattle.meaning.specs.declared.Test.{Test}
 use Rattle.meaning.specs.declared.Truth.{Truth}
 use Rattle.meaning.specs.declared.Truth.the-variants.{True, False, Unknown}
@@ -42,21 +42,17 @@ abbrev pub bitOf : Bool → ℕ
 bitOf false = 0
 bitOf true = 1
 
-abbrev pub statusCode : Status → ℕ
-statusCode Missing = 0
-statusCode Processing = 1
-
 abbrev pub truthCode : Truth → ℕ
 truthCode True = 0
 truthCode False = 1
-truthCode (Unknown s) = 2 + statusCode s
+truthCode (Unknown s) = 1 + statusNumber s
 
 unfoldable pub truthBy : ℕ → Truth
 truthBy n = if (eqb n 0) True (if (eqb n 1) False (if (eqb n 2) (Unknown Missing) (Unknown Processing)))
 
 abbrev pub causeCode : Cause → ℕ
 causeCode NoCause = 0
-causeCode (By s) = 1 + statusCode s
+causeCode (By s) = statusNumber s
 
 unfoldable pub causeBy : ℕ → Cause
 causeBy n = if (eqb n 0) NoCause (if (eqb n 1) (By Missing) (By Processing))
@@ -74,7 +70,7 @@ abbrev pub verdictCode : Verdict → ℕ
 verdictCode verdict.Permit = 0
 verdictCode verdict.Deny = 1
 verdictCode verdict.NotApplicable = 2
-verdictCode (verdict.Indeterminate s) = 3 + statusCode s
+verdictCode (verdict.Indeterminate s) = 2 + statusNumber s
 
 unfoldable pub verdictBy : ℕ → Verdict
 verdictBy n =

@@ -12,7 +12,7 @@ use sums::Operator;
 use sums::Status;
 ghost use mathlib.Core.Path.{_≡_};
 ghost use Prim.Native.Nat.{_<_, _≤_};
-ghost use Rattle.layout.specs.Layout.{bitOf, statusCode, truthCode, truthBy, causeCode, causeBy, decisionCode, decisionBy, verdictCode, verdictBy, effectBy, opCode, opBy, algorithmCode, algorithmBy, operatorBy, rankCode, rankBy, accCode, accBy, levelOf, levelWord, frameOf, frameWord, unpackOf, packOf};
+ghost use Rattle.layout.specs.Layout.{bitOf, truthCode, truthBy, causeCode, causeBy, decisionCode, decisionBy, verdictCode, verdictBy, effectBy, opCode, opBy, algorithmCode, algorithmBy, operatorBy, rankCode, rankBy, accCode, accBy, levelOf, levelWord, frameOf, frameWord, unpackOf, packOf};
 ghost use Rattle.layout.specs.Ranges.{Held};
 
 // What a condition that is open does with its parts.
@@ -67,22 +67,13 @@ pub fn bit(b: bool) -> u64
     if b { 1 } else { 0 }
 }
 
-fn status_code(s: Status) -> u64
-    ensures { λ r. ⌜ (r ≡ statusCode s) × (r ≤ 1) ⌝ }
-{
-    match s {
-        Status::Missing => 0,
-        Status::Processing => 1,
-    }
-}
-
 fn truth_code(t: Truth) -> u64
     ensures { λ r. ⌜ (r ≡ truthCode t) × (r ≤ 3) ⌝ }
 {
     match t {
         Truth::True => 0,
         Truth::False => 1,
-        Truth::Unknown(s) => 2 + status_code(s),
+        Truth::Unknown(s) => 1 + meaning::status_number(s) as u64,
     }
 }
 
@@ -102,7 +93,7 @@ fn cause_code(c: Cause) -> u64
 {
     match c {
         Cause::NoCause => 0,
-        Cause::By(s) => 1 + status_code(s),
+        Cause::By(s) => meaning::status_number(s) as u64,
     }
 }
 
@@ -145,7 +136,7 @@ fn verdict_code(v: Verdict) -> u64
         Verdict::Permit => 0,
         Verdict::Deny => 1,
         Verdict::NotApplicable => 2,
-        Verdict::Indeterminate(s) => 3 + status_code(s),
+        Verdict::Indeterminate(s) => 2 + meaning::status_number(s) as u64,
     }
 }
 

@@ -4,7 +4,7 @@ use Rattle.layout.proofs.cause_code.Statement.{statement}
 use Rattle.layout.proofs.cause_code.Tie as tie
 
 returns-2 : tie.Need-returns-2
-returns-2 c = (rw (c .before .before .c .given .1, c .status-code .ensures .0), omega arith)
+returns-2 c = (rw (c .before .before .c .given .1, c .status-number .ensures .0), omega arith)
 
 pub cause-code-spec : {M : Type 1} → statement M
 cause-code-spec =

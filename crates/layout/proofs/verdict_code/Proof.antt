@@ -4,7 +4,7 @@ use Rattle.layout.proofs.verdict_code.Statement.{statement}
 use Rattle.layout.proofs.verdict_code.Tie as tie
 
 returns-4 : tie.Need-returns-4
-returns-4 c = (rw (c .before .before .v .given .1, c .status-code .ensures .0), omega arith)
+returns-4 c = (rw (c .before .before .v .given .1, c .status-number .ensures .0), omega arith)
 
 pub verdict-code-spec : {M : Type 1} → statement M
 verdict-code-spec =
@@ -15,6 +15,7 @@ verdict-code-spec =
     (λ c. search needs)
     (λ c. search needs)
     (λ c κs. search needs)
+    (λ c. search needs)
     (λ c. search needs)
     (λ c. search needs)
     (λ c. search needs)
