@@ -16,7 +16,7 @@ use Rattle.meaning.specs.declared.Verdict.{Verdict}
 use Rattle.meaning.specs.declared.Verdict.the-variants.{Permit, Deny, NotApplicable, Indeterminate}
 use Rattle.layout.specs.declared.State.{State}
 use Rattle.layout.specs.Entry.{Entry, further, isFurther, lawful}
-use Rattle.layout.specs.Layout.{unpackOf, packOf, allowed, fetch}
+use Rattle.layout.specs.Layout.{foundCode, unpackOf, packOf, allowed, fetch}
 use Rattle.programme.specs.Step.{mayStep, stepOf, isOver, countBy, freshOf}
 use Rattle.programme.proofs.Forward.{still-allowed}
 use Rattle.run.specs.Tick.{countOf, firstPlaces}
@@ -29,7 +29,7 @@ use Rattle.demand.specs.Course.{Answered, Course}
 use Rattle.layout.specs.Room.{roomP}
 
 pub fresh-allowed : allowed (freshOf .head) ≡ true
-unfolding allowed freshOf packOf unpackOf
+unfolding allowed freshOf packOf foundCode unpackOf
 fresh-allowed = refl
 
 -- any programme whose numbers spell its entries
@@ -79,14 +79,14 @@ module _ (p : List ℕ) (es : List Entry) (g : Bags) (same : length p ≡ length
     answered : (s : State) → flatOf s ≡ w .ends → Answered s d os
     unfolding isOver firstPlaces countOf flatOf
     answered s e =
-        let c : ℕ = countBy (w .ends .head .reg) (w .ends .head) in
-        let m : c ≤ roomP = few-counted (w .ends .head .reg) in
+        let c : ℕ = countBy (w .ends .head .found .reg) (w .ends .head) in
+        let m : c ≤ roomP = few-counted (w .ends .head .found .reg) in
         let l : length (take c (w .ends .places)) ≡ c = length-take-le c (w .ends .places) (omega (arith, m, w .small .places-long)) in
         record {
           over = ap (λ (b : Flat). b .head .over) e ∙ w .over;
-          decision = ap (λ (b : Flat). b .head .reg) e ∙ w .decision;
-          obligations = ap (λ (b : Flat). take (countBy (b .head .reg) (b .head)) (b .places)) e ∙ w .duties;
-          count = ap (λ (b : Flat). countBy (b .head .reg) (b .head)) e ∙ sym l ∙ ap length (w .duties);
+          decision = ap (λ (b : Flat). b .head .found .reg) e ∙ w .decision;
+          obligations = ap (λ (b : Flat). take (countBy (b .head .found .reg) (b .head)) (b .places)) e ∙ w .duties;
+          count = ap (λ (b : Flat). countBy (b .head .found .reg) (b .head)) e ∙ sym l ∙ ap length (w .duties);
         }
 
     pub course : Course p g d os

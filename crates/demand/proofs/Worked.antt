@@ -15,7 +15,7 @@ use Rattle.meaning.specs.declared.Verdict.the-variants.{Deny}
 use Rattle.layout.specs.Entry.{lawful}
 use Rattle.moves.specs.Core.{core}
 use Rattle.stacks.specs.Machine.{copies}
-use Rattle.layout.specs.Layout.{wordsOf, testWord, fetch, entryOf, entryBy, compareBy, testOf, unpackOf, packOf, truthBy, causeBy, verdictBy, effectBy, algorithmBy, accBy, rankBy, frameOf, frameWord}
+use Rattle.layout.specs.Layout.{wordsOf, testWord, fetch, entryOf, entryBy, compareBy, testOf, foundBy, foundCode, unpackOf, packOf, truthBy, causeBy, verdictBy, effectBy, algorithmBy, accBy, rankBy, frameOf, frameWord}
 use Rattle.programme.specs.Step.{mayStep, stepOf, isOver, after, headAfter, seen, freshOf}
 use Rattle.run.specs.Run.{runOf}
 use Rattle.code.specs.Code.{codeConjunction, codeSection, codeTarget, codeCondition, codeConditions, codeWhen, codeRule, codeRules, codeObligations, codeBody, codeWithin, codeShell, codeTree, codeTrees, owns, obligations, obligationsAll, codeTop, programme, translated, inNumbers}
@@ -43,10 +43,10 @@ written = refl
 -- eight steps of twenty, and then Deny with obligation 18
 ran : (runOf page (bagsOf (lines (is40 ∷ []))) 20 freshOf .ok ≡ true) × (runOf page (bagsOf (lines (is40 ∷ []))) 20 freshOf .steps ≡ 8)
     × (isOver (runOf page (bagsOf (lines (is40 ∷ []))) 20 freshOf .state) ≡ true)
-    × (unpackOf (runOf page (bagsOf (lines (is40 ∷ []))) 20 freshOf .state .head) .reg ≡ Deny)
+    × (unpackOf (runOf page (bagsOf (lines (is40 ∷ []))) 20 freshOf .state .head) .found .reg ≡ Deny)
     × (unpackOf (runOf page (bagsOf (lines (is40 ∷ []))) 20 freshOf .state .head) .denies ≡ 1)
     × (getD (runOf page (bagsOf (lines (is40 ∷ []))) 20 freshOf .state .places) 0 7 ≡ 18)
 unfolding bytes lines is40 page
-    runOf isOver mayStep stepOf after headAfter seen core lawful copies fetch entryOf entryBy compareBy testOf unpackOf packOf truthBy causeBy verdictBy effectBy algorithmBy accBy rankBy frameOf frameWord freshOf
+    runOf isOver mayStep stepOf after headAfter seen core lawful copies fetch entryOf entryBy compareBy testOf foundBy foundCode unpackOf packOf truthBy causeBy verdictBy effectBy algorithmBy accBy rankBy frameOf frameWord freshOf
     bagsOf bagFrom bigOf comparisonOf gives keyBy functionOf valueOf signed64 finiteOf
 ran = (refl, refl, refl, refl, refl, refl)

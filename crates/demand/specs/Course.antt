@@ -15,7 +15,7 @@ use Rattle.promises.specs.Steps.{afterSteps, Left}
 -- a finished state, with its answer
 pub record Answered (s : State) (d : Verdict) (os : List ℕ) : Type 0 where
   pub over : isOver s ≡ true
-  pub decision : unpackOf (s .head) .reg ≡ d
+  pub decision : unpackOf (s .head) .found .reg ≡ d
   pub obligations : firstPlaces s ≡ os
   pub count : countOf s ≡ length os
 

@@ -34,8 +34,9 @@ use Rattle.layout.specs.declared.Op.{Op}
 use Rattle.layout.specs.declared.Op.the-variants.{All, Any, Not}
 use Rattle.layout.specs.declared.Level.{Level}
 use Rattle.layout.specs.declared.Frame.{Frame}
+use Rattle.layout.specs.declared.Found.{Found}
 use Rattle.layout.specs.declared.Head.{Head}
-use Rattle.layout.specs.Layout.{bitOf, truthCode, truthBy, causeCode, causeBy, decisionCode, decisionBy, verdictCode, verdictBy, effectCode, effectBy, opCode, opBy, algorithmCode, algorithmBy, functionCode, operatorCode, operatorBy, rankBy, accCode, accBy, levelOf, levelWord, frameOf, frameWord, unpackOf, packOf, allowed}
+use Rattle.layout.specs.Layout.{bitOf, truthCode, truthBy, causeCode, causeBy, decisionCode, decisionBy, verdictCode, verdictBy, effectCode, effectBy, opCode, opBy, algorithmCode, algorithmBy, functionCode, operatorCode, operatorBy, rankBy, accCode, accBy, levelOf, levelWord, frameOf, frameWord, foundBy, foundCode, unpackOf, packOf, allowed}
 use Rattle.layout.specs.Ranges.{Held, Ranged}
 use Rattle.layout.specs.Room.{roomP}
 
@@ -216,19 +217,33 @@ frame-back f p d =
     digit 134217728 4 n (algorithmCode (f .alg) + 8 * (accCode (k .acc) + 16 * (f .permits + 1024 * f .denies))) (causeCode (k .cause)) 0 (omega arith) (omega arith) (omega arith) in
     rw (alg, acc, permits, denies, cause, algorithm-back, acc-back, cause-back)
 
+-- what was found so far
+pub found-small : (f : Found) → foundCode f < 512
+unfolding foundCode
+found-small f = omega (arith, verdict-small (f .reg), truth-small (f .ands), truth-small (f .ors), truth-small (f .sections))
+
+found-back : (f : Found) → foundBy (foundCode f) ≡ f
+unfolding foundBy foundCode
+found-back f =
+    let r : ℕ = verdictCode (f .reg) in
+    let a : ℕ = truthCode (f .ands) in
+    let o : ℕ = truthCode (f .ors) in
+    let s : ℕ = truthCode (f .sections) in
+    let n : ℕ = r + 8 * (a + 4 * (o + 4 * s)) in
+    let v = verdict-small (f .reg) in
+    let t = truth-small (f .ands) in
+    let u = truth-small (f .ors) in
+    let w = truth-small (f .sections) in
+    let reg : n % 8 ≡ r = remainder 8 n r _ refl (omega arith) in
+    let ands : n / 8 % 4 ≡ a = digit 8 4 n r a _ refl (omega arith) (omega arith) in
+    let ors : n / 32 % 4 ≡ o = digit 32 4 n (r + 8 * a) o s (omega arith) (omega arith) (omega arith) in
+    let sections : n / 128 % 4 ≡ s = digit 128 4 n (r + 8 * (a + 4 * o)) s 0 (omega arith) (omega arith) (omega arith) in
+    rw (reg, ands, ors, sections, verdict-back (f .reg), truth-back (f .ands), truth-back (f .ors), truth-back (f .sections))
+
 -- the first number: its words, and what stands below them
 module _ (h : Head) where
-  third : ℕ
-  third = truthCode (h .sections) + 4 * bitOf (h .over)
-
-  second : ℕ
-  second = truthCode (h .ors) + 4 * third
-
-  first : ℕ
-  first = truthCode (h .ands) + 4 * second
-
   words : ℕ
-  words = verdictCode (h .reg) + 8 * first
+  words = foundCode (h .found) + 512 * bitOf (h .over)
 
   stacks : ℕ
   stacks = h .permits + 1024 * (h .denies + 1024 * h .cut)
@@ -238,16 +253,15 @@ module _ (h : Head) where
 
 module _ (h : Head) (s : Held h) where
   words-small : words h < 1024
-  unfolding words first second third
-  words-small =
-      omega (arith, verdict-small (h .reg), truth-small (h .ands), truth-small (h .ors), truth-small (h .sections), bit-small (h .over))
+  unfolding words
+  words-small = omega (arith, found-small (h .found), bit-small (h .over))
 
   low-small : low h < 4503599627370496
   unfolding low stacks
   low-small = omega arith
 
   parts : packOf h ≡ low h + 4503599627370496 * words h
-  unfolding packOf low stacks words first second third
+  unfolding packOf low stacks words
   parts = omega arith
 
   pub pack-small : packOf h < 4611686018427387904
@@ -285,40 +299,15 @@ module _ (h : Head) (s : Held h) where
       digit 4398046511104 1024 (packOf h) (h .at + 8192 * (h .depth + 32 * (h .nest + 16 * (h .permits + 1024 * h .denies)))) (h .cut) (words h)
       (omega (arith, parts)) (omega arith) (s .cut)
 
-  reg-back : packOf h / 4503599627370496 % 8 ≡ verdictCode (h .reg)
+  found-stands : packOf h / 4503599627370496 % 512 ≡ foundCode (h .found)
   unfolding words
-  reg-back =
-      digit 4503599627370496 8 (packOf h) (low h) (verdictCode (h .reg)) (first h) parts low-small (omega (arith, verdict-small (h .reg)))
+  found-stands = digit 4503599627370496 512 (packOf h) (low h) (foundCode (h .found)) (bitOf (h .over)) parts low-small (found-small (h .found))
 
-  ands-back : packOf h / 36028797018963968 % 4 ≡ truthCode (h .ands)
-  unfolding words first
-  ands-back =
-      digit 36028797018963968 4 (packOf h) (low h + 4503599627370496 * verdictCode (h .reg)) (truthCode (h .ands)) (second h)
-      (omega (arith, parts)) (omega (arith, low-small, verdict-small (h .reg))) (omega (arith, truth-small (h .ands)))
-
-  ors-back : packOf h / 144115188075855872 % 4 ≡ truthCode (h .ors)
-  unfolding words first second
-  ors-back =
-      digit 144115188075855872 4 (packOf h) (low h + 4503599627370496 * (verdictCode (h .reg) + 8 * truthCode (h .ands))) (truthCode (h .ors)) (third h)
-      (omega (arith, parts)) (omega (arith, low-small, verdict-small (h .reg), truth-small (h .ands))) (omega (arith, truth-small (h .ors)))
-
-  sections-back : packOf h / 576460752303423488 % 4 ≡ truthCode (h .sections)
-  unfolding words first second third
-  sections-back =
-      digit 576460752303423488 4 (packOf h)
-      (low h + 4503599627370496 * (verdictCode (h .reg) + 8 * (truthCode (h .ands) + 4 * truthCode (h .ors)))) (truthCode (h .sections)) (bitOf (h .over))
-      (omega (arith, parts)) (omega (arith, low-small, verdict-small (h .reg), truth-small (h .ands), truth-small (h .ors)))
-      (omega (arith, truth-small (h .sections)))
-
-  over-back : packOf h / 2305843009213693952 % 2 ≡ bitOf (h .over)
-  unfolding words first second third
-  over-back =
-      digit 2305843009213693952 2 (packOf h)
-      (low h + 4503599627370496 * (verdictCode (h .reg) + 8 * (truthCode (h .ands) + 4 * (truthCode (h .ors) + 4 * truthCode (h .sections)))))
-      (bitOf (h .over)) 0
-      (omega (arith, parts))
-      (omega (arith, low-small, verdict-small (h .reg), truth-small (h .ands), truth-small (h .ors), truth-small (h .sections)))
-      (omega (arith, bit-small (h .over)))
+  over-stands : packOf h / 2305843009213693952 % 2 ≡ bitOf (h .over)
+  unfolding words
+  over-stands =
+      digit 2305843009213693952 2 (packOf h) (low h + 4503599627370496 * foundCode (h .found)) (bitOf (h .over)) 0
+      (omega (arith, parts)) (omega (arith, low-small, found-small (h .found))) (omega (arith, bit-small (h .over)))
 
   -- a first number whose fields fit comes back
   unpack-pack : unpackOf (packOf h) ≡ h
@@ -331,15 +320,9 @@ module _ (h : Head) (s : Held h) where
         permits-back,
         denies-back,
         cut-back,
-        reg-back,
-        ands-back,
-        ors-back,
-        sections-back,
-        over-back,
-        verdict-back (h .reg),
-        truth-back (h .ands),
-        truth-back (h .ors),
-        truth-back (h .sections),
+        found-stands,
+        over-stands,
+        found-back (h .found),
         bit-back (h .over),
       )
 

@@ -33,6 +33,7 @@ use Rattle.layout.specs.declared.Op.{Op}
 use Rattle.layout.specs.declared.Op.the-variants.{All, Any, Not}
 use Rattle.layout.specs.declared.Level.{Level}
 use Rattle.layout.specs.declared.Frame.{Frame}
+use Rattle.layout.specs.declared.Found.{Found}
 use Rattle.layout.specs.declared.Head.{Head}
 use Rattle.layout.specs.Entry.{Piece, loads, asks, works, tests, Entry, begin, match, further, opens, compare, close, sum, rule, enter, applies, conclude, oblige, leave, finish}
 use Rattle.layout.specs.Room.{roomP}
@@ -169,8 +170,15 @@ frameOf n = record {
 unfoldable pub frameWord : Frame → ℕ
 frameWord f = algorithmCode (f .alg) + 8 * (accCode (f .tally .acc) + 16 * (f .permits + 1024 * (f .denies + 1024 * causeCode (f .tally .cause))))
 
+-- what was found so far: 3 bits the register, 2 each the conjunction, the section and the target
+unfoldable pub foundBy : ℕ → Found
+foundBy n = record { reg = verdictBy (n % 8); ands = truthBy (n / 8 % 4); ors = truthBy (n / 32 % 4); sections = truthBy (n / 128 % 4) }
+
+unfoldable pub foundCode : Found → ℕ
+foundCode f = verdictCode (f .reg) + 8 * (truthCode (f .ands) + 4 * (truthCode (f .ors) + 4 * truthCode (f .sections)))
+
 -- the first number: 13 bits the place in the programme, 5 open policies and sets, 4 open conditions, 10 each the heights of Permit's and Deny's
--- obligations and the cut, 3 the register, 2 each the conjunction, the section and the target so far, 1 whether the run is over
+-- obligations and the cut, 9 what was found so far, 1 whether the run is over
 unfoldable pub unpackOf : ℕ → Head
 unpackOf n = record {
   at = n % 8192;
@@ -179,10 +187,7 @@ unpackOf n = record {
   permits = n / 4194304 % 1024;
   denies = n / 4294967296 % 1024;
   cut = n / 4398046511104 % 1024;
-  reg = verdictBy (n / 4503599627370496 % 8);
-  ands = truthBy (n / 36028797018963968 % 4);
-  ors = truthBy (n / 144115188075855872 % 4);
-  sections = truthBy (n / 576460752303423488 % 4);
+  found = foundBy (n / 4503599627370496 % 512);
   over = eqb (n / 2305843009213693952 % 2) 1;
 }
 
@@ -194,11 +199,8 @@ packOf h =
     + 16 * (h .permits
     + 1024 * (h .denies
     + 1024 * (h .cut
-    + 1024 * (verdictCode (h .reg)
-    + 8 * (truthCode (h .ands)
-    + 4 * (truthCode (h .ors)
-    + 4 * (truthCode (h .sections)
-    + 4 * bitOf (h .over))))))))))
+    + 1024 * (foundCode (h .found)
+    + 512 * bitOf (h .over)))))))
 
 -- what the layout allows of the first number: at most 16 policies and sets and 14 conditions open, and the stacks within the 1,000 places
 unfoldable pub allowed : ℕ → Bool

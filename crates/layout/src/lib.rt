@@ -12,7 +12,7 @@ use sums::Operator;
 use sums::Status;
 ghost use mathlib.Core.Path.{_≡_};
 ghost use Prim.Native.Nat.{_<_, _≤_};
-ghost use Rattle.layout.specs.Layout.{bitOf, truthCode, truthBy, causeCode, causeBy, decisionCode, decisionBy, verdictCode, verdictBy, effectBy, opCode, opBy, algorithmCode, algorithmBy, operatorBy, rankCode, rankBy, accCode, accBy, levelOf, levelWord, frameOf, frameWord, unpackOf, packOf};
+ghost use Rattle.layout.specs.Layout.{bitOf, truthCode, truthBy, causeCode, causeBy, decisionCode, decisionBy, verdictCode, verdictBy, effectBy, opCode, opBy, algorithmCode, algorithmBy, operatorBy, rankCode, rankBy, accCode, accBy, levelOf, levelWord, frameOf, frameWord, foundBy, foundCode, unpackOf, packOf};
 ghost use Rattle.layout.specs.Ranges.{Held};
 
 // What a condition that is open does with its parts.
@@ -36,6 +36,14 @@ pub struct Frame {
     pub denies: u64,
 }
 
+// What was found so far: the register, and the truths of a conjunction, a section and a target.
+pub struct Found {
+    pub reg: Verdict,
+    pub ands: Truth,
+    pub ors: Truth,
+    pub sections: Truth,
+}
+
 // The first number, taken apart.
 pub struct Head {
     pub at: u64,
@@ -44,10 +52,7 @@ pub struct Head {
     pub permits: u64,
     pub denies: u64,
     pub cut: u64,
-    pub reg: Verdict,
-    pub ands: Truth,
-    pub ors: Truth,
-    pub sections: Truth,
+    pub found: Found,
     pub over: bool,
 }
 
@@ -314,6 +319,28 @@ pub fn frame_word(f: Frame) -> u64
     algorithm_code(alg) + 8 * (acc_code(acc) + 16 * heights)
 }
 
+fn found_by(n: u64) -> Found
+    ensures { λ r. ⌜ r ≡ foundBy n ⌝ }
+{
+    Found {
+        reg: verdict_by(n % 8),
+        ands: truth_by(n / 8 % 4),
+        ors: truth_by(n / 32 % 4),
+        sections: truth_by(n / 128 % 4),
+    }
+}
+
+fn found_code(f: Found) -> u64
+    ensures { λ r. ⌜ (r ≡ foundCode f) × (r < 512) ⌝ }
+{
+    let reg = f.reg;
+    let ands = f.ands;
+    let ors = f.ors;
+    let sections = f.sections;
+    let second = truth_code(ors) + 4 * truth_code(sections);
+    verdict_code(reg) + 8 * (truth_code(ands) + 4 * second)
+}
+
 pub fn unpack(n: u64) -> Head
     ensures { λ r. ⌜ r ≡ unpackOf n ⌝ }
 {
@@ -324,10 +351,7 @@ pub fn unpack(n: u64) -> Head
         permits: n / 4194304 % 1024,
         denies: n / 4294967296 % 1024,
         cut: n / 4398046511104 % 1024,
-        reg: verdict_by(n / 4503599627370496 % 8),
-        ands: truth_by(n / 36028797018963968 % 4),
-        ors: truth_by(n / 144115188075855872 % 4),
-        sections: truth_by(n / 576460752303423488 % 4),
+        found: found_by(n / 4503599627370496 % 512),
         over: n / 2305843009213693952 % 2 == 1,
     }
 }
@@ -336,14 +360,8 @@ pub fn pack(h: Head) -> u64
     requires { ⌜ Held h ⌝ }
     ensures { λ r. ⌜ r ≡ packOf h ⌝ }
 {
-    let sections = h.sections;
-    let ors = h.ors;
-    let ands = h.ands;
-    let reg = h.reg;
-    let third = truth_code(sections) + 4 * bit(h.over);
-    let second = truth_code(ors) + 4 * third;
-    let first = truth_code(ands) + 4 * second;
-    let words = verdict_code(reg) + 8 * first;
+    let found = h.found;
+    let words = found_code(found) + 512 * bit(h.over);
     let stacks = h.permits + 1024 * (h.denies + 1024 * (h.cut + 1024 * words));
     h.at + 8192 * (h.depth + 32 * (h.nest + 16 * stacks))
 }

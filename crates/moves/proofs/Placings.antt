@@ -43,12 +43,12 @@ module _ (P : Entry → Bool → Placing → Type 0) (h : Head) (w : ByEntry P h
   placing-by (opens op) l m f b = w .rests (opens op)
   placing-by (compare t n) l m f b = go (h .nest)
     where
-      go : (k : ℕ) → Has (compare t n) (tell (comparisonOf g t) n k l (h .reg))
+      go : (k : ℕ) → Has (compare t n) (tell (comparisonOf g t) n k l (h .found .reg))
       go zero = w .rests (compare t n)
       go (suc k) = w .rests (compare t n)
   placing-by (close n) l m f b = go (h .nest)
     where
-      go : (k : ℕ) → Has (close n) (closed n k l m (h .reg))
+      go : (k : ℕ) → Has (close n) (closed n k l m (h .found .reg))
       go zero = w .rests (close n)
       go (suc zero) = w .rests (close n)
       go (suc (suc k)) = w .rests (close n)
@@ -60,7 +60,7 @@ module _ (P : Entry → Bool → Placing → Type 0) (h : Head) (w : ByEntry P h
   placing-by (enter al) l m f b = w .rests (enter al)
   placing-by (applies n) l m f b = go (b .tally .acc)
     where
-      go : (a : Acc) → Has (applies n) (noted a b n (h .reg))
+      go : (a : Acc) → Has (applies n) (noted a b n (h .found .reg))
       go (Ranked k) = w .rests (applies n)
       go Nobody = w .rests (applies n)
       go Pending = w .rests (applies n)
@@ -73,14 +73,14 @@ module _ (P : Entry → Bool → Placing → Type 0) (h : Head) (w : ByEntry P h
       go Deny = w .falls n (f .permits) (f .denies) .0
       go NotApplicable = w .falls n (f .permits) (f .denies) .2
       go (Indeterminate s) = w .falls n (f .permits) (f .denies) .2
-  placing-by (oblige e n) l m f b = go e (is (decisionIn (h .reg)) (decisionOf e))
+  placing-by (oblige e n) l m f b = go e (is (decisionIn (h .found .reg)) (decisionOf e))
     where
       go : (e : Effect) (x : Bool) → P (oblige e n) false (pushed e x n)
       go e false = w .rests (oblige e n)
       go Permits true = w .adds n .0
       go Denies true = w .adds n .1
   placing-by (leave n) l m f b = w .rests (leave n)
-  placing-by finish l m f b = go (is (decisionIn (h .reg)) decision.Deny) (ltb (h .permits) (h .denies)) refl
+  placing-by finish l m f b = go (is (decisionIn (h .found .reg)) decision.Deny) (ltb (h .permits) (h .denies)) refl
     where
       go : (y x : Bool) → ltb (h .permits) (h .denies) ≡ x → Has finish (finished (both y x) h)
       go true true e = w .downs (ltb-true (h .permits) (h .denies) e)

@@ -50,10 +50,14 @@ pub record Out : Type 0 where
   pub placing : Placing
 
 abbrev pub next : ℕ → Verdict → Truth → Truth → Truth → Next
-next n r a o t = record { jump = n; reg = r; ands = a; ors = o; sections = t }
+next n r a o t = record { jump = n; found = record { reg = r; ands = a; ors = o; sections = t } }
 
 abbrev pub out : Next → Changing ℕ → Changing Frame → Placing → Out
 out n ls fs z = record { next = n; over = false; levels = ls; frames = fs; placing = z }
+
+-- the next entry, with all that was found
+abbrev pub onward : Head → Next
+onward h = record { jump = 0; found = h .found }
 
 -- the register and the truths as they are between targets and conditions, and how far to go on: over n entries if b
 abbrev pub clear : ℕ → Verdict → Next
@@ -166,7 +170,7 @@ tested False f k x y = truthOf (testOf f (valueOf k x) (valueOf k y))
 tested (Unknown s) f k x y = Unknown s
 
 abbrev pub carried : Head → Truth → Changing ℕ → Out
-carried h mark ls = out (next 0 (h .reg) mark (h .ors) (h .sections)) ls keep Rest
+carried h mark ls = out (next 0 (h .found .reg) mark (h .found .ors) (h .found .sections)) ls keep Rest
 
 abbrev pub pushes : Head → Worth → Out
 pushes h w = carried h (markOf w) (push (wordOf w))
@@ -177,10 +181,10 @@ leaves h w = carried h (markOf w) (back (wordOf w))
 -- a piece, by the levels on top and below: a literal or attribute is put on top; an operator takes the one on top away and replaces the one below; so
 -- does the comparison, by a level of a condition that has its value, for `close` to tell
 abbrev pub pieced : Bags → Head → Piece → ℕ → ℕ → Out
-pieced g h (loads k n) l m = pushes h (since (h .ands) (Is (valueOf k n)))
-pieced g h (asks key) l m = pushes h (since (h .ands) (theOnly (g (keyBy key))))
-pieced g h (works o) l m = leaves h (since (h .ands) (worked o m l))
-pieced g h (tests f k) l m = carried h True (back (level All (tested (h .ands) f k m l)))
+pieced g h (loads k n) l m = pushes h (since (h .found .ands) (Is (valueOf k n)))
+pieced g h (asks key) l m = pushes h (since (h .found .ands) (theOnly (g (keyBy key))))
+pieced g h (works o) l m = leaves h (since (h .found .ands) (worked o m l))
+pieced g h (tests f k) l m = carried h True (back (level All (tested (h .found .ands) f k m l)))
 
 -- rules, policies and sets
 abbrev pub ruled : Effect → Verdict → Verdict
@@ -223,7 +227,7 @@ atOnce = 2
 
 -- the stacks, the register and the truths stay as they are, and the run may be over
 abbrev pub ending : Head → Bool → Placing → Out
-ending h over z = record { next = next 0 (h .reg) (h .ands) (h .ors) (h .sections); over = over; levels = keep; frames = keep; placing = z }
+ending h over z = record { next = onward h; over = over; levels = keep; frames = keep; placing = z }
 
 -- Deny's obligations come down while some are left above, and the run is over with the last of them. Permit's stack is empty by then, and its
 -- height counts them.
@@ -235,22 +239,22 @@ finished false h = ending h true Rest
 unfoldable pub core : Bags → Head → Entry → ℕ → ℕ → Frame → Frame → Out
 core g h (begin al c) l m f b = out (clear 0 Permit) keep (push (record { alg = al; tally = fresh al; permits = 0; denies = 0 })) (Cut c)
 core g h (match t k c s i j x) l m f b =
-    out (matchDone (andOf (h .ands) (matchOf g t)) k c s i j x (h .ors) (h .sections) (h .reg)) keep keep Rest
-core g h further l m f b = out (clear 0 (h .reg)) keep keep Rest
-core g h (opens op) l m f b = out (next 0 (h .reg) (h .ands) (h .ors) (h .sections)) (push (level op (startOf op))) keep Rest
-core g h (compare t n) l m f b = tell (comparisonOf g t) n (h .nest) l (h .reg)
-core g h (close n) l m f b = closed n (h .nest) l m (h .reg)
+    out (matchDone (andOf (h .found .ands) (matchOf g t)) k c s i j x (h .found .ors) (h .found .sections) (h .found .reg)) keep keep Rest
+core g h further l m f b = out (clear 0 (h .found .reg)) keep keep Rest
+core g h (opens op) l m f b = out (onward h) (push (level op (startOf op))) keep Rest
+core g h (compare t n) l m f b = tell (comparisonOf g t) n (h .nest) l (h .found .reg)
+core g h (close n) l m f b = closed n (h .nest) l m (h .found .reg)
 core g h (sum p) l m f b = pieced g h p l m
 core g h (rule e n) l m f b =
-    let k = tallied (f .alg) (f .tally) e (ruled e (h .reg)) in
+    let k = tallied (f .alg) (f .tally) e (ruled e (h .found .reg)) in
     out (past (settled (f .alg) (k .acc)) n Permit) keep (swap (put f k)) Rest
 core g h (enter al) l m f b =
-    out (next 0 Permit (h .ands) (h .ors) (h .sections)) keep
+    out (next 0 Permit (h .found .ands) (h .found .ors) (h .found .sections)) keep
     (push (record { alg = al; tally = fresh al; permits = h .permits; denies = h .denies })) Rest
-core g h (applies n) l m f b = noted (b .tally .acc) b n (h .reg)
+core g h (applies n) l m f b = noted (b .tally .acc) b n (h .found .reg)
 core g h (conclude n) l m f b = concluded (verdictSoFar (f .alg) (f .tally)) n (f .permits) (f .denies)
-core g h (oblige e n) l m f b = out (clear 0 (h .reg)) keep keep (pushed e (is (decisionIn (h .reg)) (decisionOf e)) n)
+core g h (oblige e n) l m f b = out (clear 0 (h .found .reg)) keep keep (pushed e (is (decisionIn (h .found .reg)) (decisionOf e)) n)
 core g h (leave n) l m f b =
-    let k = tallied (b .alg) (b .tally) Permits (h .reg) in
+    let k = tallied (b .alg) (b .tally) Permits (h .found .reg) in
     out (past (settled (b .alg) (k .acc)) n Permit) keep (back (put b k)) Rest
-core g h finish l m f b = finished (both (is (decisionIn (h .reg)) decision.Deny) (ltb (h .permits) (h .denies))) h
+core g h finish l m f b = finished (both (is (decisionIn (h .found .reg)) decision.Deny) (ltb (h .permits) (h .denies))) h

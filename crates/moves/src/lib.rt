@@ -3,20 +3,18 @@ pub mod conditions;
 pub mod policies;
 pub mod targets;
 
+use layout::Found;
 use layout::Head;
 use meaning::Truth;
 use meaning::Verdict;
 ghost use mathlib.Core.Path.{_≡_};
-ghost use Rattle.moves.specs.Core.{next, clear, past};
+ghost use Rattle.moves.specs.Core.{onward, clear, past};
 ghost use Rattle.moves.specs.Moves.{moved};
 
-// How many entries a step leaves out, and the register and the three truths that it leaves.
+// How many entries a step leaves out, and what is found then.
 pub struct Next {
     pub jump: u64,
-    pub reg: Verdict,
-    pub ands: Truth,
-    pub ors: Truth,
-    pub sections: Truth,
+    pub found: Found,
 }
 
 // What becomes of a stack: nothing; one more on top; another on top; another below the top; the top goes and another is below it.
@@ -54,10 +52,12 @@ pub fn cleared(n: u64, v: Verdict) -> Next
 {
     Next {
         jump: n,
-        reg: v,
-        ands: Truth::True,
-        ors: Truth::False,
-        sections: Truth::True,
+        found: Found {
+            reg: v,
+            ands: Truth::True,
+            ors: Truth::False,
+            sections: Truth::True,
+        },
     }
 }
 
@@ -70,21 +70,12 @@ pub fn past_if(b: bool, n: u64, v: Verdict) -> Next
     cleared(0, v)
 }
 
-// The register and the truths stay as they are.
-pub fn unchanged(h: Head, n: u64) -> Next
-    ensures { λ r. ⌜ r ≡ next n (h .reg) (h .ands) (h .ors) (h .sections) ⌝ }
+// The next entry, with all that was found.
+pub fn unchanged(h: Head) -> Next
+    ensures { λ r. ⌜ r ≡ onward h ⌝ }
 {
-    let reg = h.reg;
-    let ands = h.ands;
-    let ors = h.ors;
-    let sections = h.sections;
-    Next {
-        jump: n,
-        reg,
-        ands,
-        ors,
-        sections,
-    }
+    let found = h.found;
+    Next { jump: 0, found }
 }
 
 pub fn moving(n: Next, levels: Change, frames: Change, placing: Placing) -> Move

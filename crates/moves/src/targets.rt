@@ -1,6 +1,7 @@
 // What a match does to its conjunction, its section and its target.
 use crate::Next;
 use crate::cleared;
+use layout::Found;
 use meaning::Truth;
 use meaning::Verdict;
 ghost use mathlib.Core.Path.{_≡_};
@@ -35,10 +36,12 @@ fn section_held(last: bool, j: u64, x: u64, t: Truth, d: Verdict) -> Next
     }
     Next {
         jump: j,
-        reg: d,
-        ands: Truth::True,
-        ors: Truth::False,
-        sections: t,
+        found: Found {
+            reg: d,
+            ands: Truth::True,
+            ors: Truth::False,
+            sections: t,
+        },
     }
 }
 
@@ -62,17 +65,21 @@ fn conjunction_done(v: Truth, s: Stands, t: Truth, d: Verdict) -> Next
         Truth::True => section_done(Truth::True, s.l, s.j, s.x, t, d),
         Truth::False => Next {
             jump: s.i,
-            reg: d,
-            ands: Truth::True,
-            ors: Truth::False,
-            sections: t,
+            found: Found {
+                reg: d,
+                ands: Truth::True,
+                ors: Truth::False,
+                sections: t,
+            },
         },
         Truth::Unknown(_) => Next {
             jump: s.i,
-            reg: d,
-            ands: Truth::True,
-            ors: v,
-            sections: t,
+            found: Found {
+                reg: d,
+                ands: Truth::True,
+                ors: v,
+                sections: t,
+            },
         },
     }
 }
@@ -87,17 +94,21 @@ pub fn match_done(v: Truth, s: Stands, o: Truth, t: Truth, d: Verdict) -> Next
         Truth::False => conjunction_done(meaning::or3(o, Truth::False), s, t, d),
         Truth::True => Next {
             jump: 0,
-            reg: d,
-            ands: Truth::True,
-            ors: o,
-            sections: t,
+            found: Found {
+                reg: d,
+                ands: Truth::True,
+                ors: o,
+                sections: t,
+            },
         },
         Truth::Unknown(_) => Next {
             jump: 0,
-            reg: d,
-            ands: v,
-            ors: o,
-            sections: t,
+            found: Found {
+                reg: d,
+                ands: v,
+                ors: o,
+                sections: t,
+            },
         },
     }
 }

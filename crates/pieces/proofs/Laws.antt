@@ -22,7 +22,7 @@ since-is False w = refl
 since-is (Unknown s) w = refl
 
 abbrev going : Head → Word → Next
-going h x = next 0 (h .reg) (markIn x) (h .ors) (h .sections)
+going h x = next 0 (h .found .reg) (markIn x) (h .found .ors) (h .found .sections)
 
 push-is : (h : Head) (w : Worth) → moved (going h (inBytes w)) (Push (wordIn (inBytes w))) Keep Rest ≡ moveOf (pushes h w)
 push-is h (Is v) = refl
@@ -32,15 +32,15 @@ leave-is : (h : Head) (w : Worth) → moved (going h (inBytes w)) (Back (wordIn 
 leave-is h (Is v) = refl
 leave-is h (Lost s) = refl
 
-keeps : (h : Head) (w : Worth) {found x : Word} → found ≡ inBytes w → x ≡ sinceWord (h .ands) found → x ≡ inBytes (since (h .ands) w)
-keeps h w e k = k ∙ ap (sinceWord (h .ands)) e ∙ since-is (h .ands) w
+keeps : (h : Head) (w : Worth) {given x : Word} → given ≡ inBytes w → x ≡ sinceWord (h .found .ands) given → x ≡ inBytes (since (h .found .ands) w)
+keeps h w e k = k ∙ ap (sinceWord (h .found .ands)) e ∙ since-is (h .found .ands) w
 
 -- of a word that stands for the worth w: the word x since the mark, its mark and number, where to go on, and the move r
-module _ (h : Head) (w : Worth) (r : Move) {found x : Word} {mark : Truth} {n : ℕ} {on : Next}
-    (stands : found ≡ inBytes w) (kept : x ≡ sinceWord (h .ands) found) (marks : mark ≡ markIn x) (goes : on ≡ next 0 (h .reg) mark (h .ors) (h .sections))
+module _ (h : Head) (w : Worth) (r : Move) {given x : Word} {mark : Truth} {n : ℕ} {on : Next}
+    (stands : given ≡ inBytes w) (kept : x ≡ sinceWord (h .found .ands) given) (marks : mark ≡ markIn x) (goes : on ≡ next 0 (h .found .reg) mark (h .found .ors) (h .found .sections))
     (word : n ≡ wordIn x) where
-  pub puts : r ≡ moved on (Push n) Keep Rest → r ≡ moveOf (pushes h (since (h .ands) w))
-  puts e = rw (e, goes, marks, word, keeps h w stands kept) (push-is h (since (h .ands) w))
+  pub puts : r ≡ moved on (Push n) Keep Rest → r ≡ moveOf (pushes h (since (h .found .ands) w))
+  puts e = rw (e, goes, marks, word, keeps h w stands kept) (push-is h (since (h .found .ands) w))
 
-  pub left : r ≡ moved on (Back n) Keep Rest → r ≡ moveOf (leaves h (since (h .ands) w))
-  left e = rw (e, goes, marks, word, keeps h w stands kept) (leave-is h (since (h .ands) w))
+  pub left : r ≡ moved on (Back n) Keep Rest → r ≡ moveOf (leaves h (since (h .found .ands) w))
+  left e = rw (e, goes, marks, word, keeps h w stands kept) (leave-is h (since (h .found .ands) w))

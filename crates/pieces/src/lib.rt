@@ -1,4 +1,5 @@
 // What the pieces of a comparison of two values do. On the levels a value is its eight bytes.
+use layout::Found;
 use layout::Head;
 use layout::Level;
 use layout::Op;
@@ -52,35 +53,40 @@ fn mark_in(w: Word) -> Truth
 }
 
 fn marked(h: Head, mark: Truth) -> Next
-    ensures { λ r. ⌜ r ≡ next 0 (h .reg) mark (h .ors) (h .sections) ⌝ }
+    ensures { λ r. ⌜ r ≡ next 0 (h .found .reg) mark (h .found .ors) (h .found .sections) ⌝ }
 {
-    let reg = h.reg;
-    let ors = h.ors;
-    let sections = h.sections;
+    let found = h.found;
+    let reg = found.reg;
+    let ors = found.ors;
+    let sections = found.sections;
     Next {
         jump: 0,
-        reg,
-        ands: mark,
-        ors,
-        sections,
+        found: Found {
+            reg,
+            ands: mark,
+            ors,
+            sections,
+        },
     }
 }
 
 // A literal, or what was found of an attribute, goes on top of the levels.
-pub fn put_word(h: Head, found: Word) -> Move
-    ensures { λ r. ⌜ ((w : Worth) → found ≡ inBytes w → r ≡ moveOf (pushes h (since (h .ands) w))) ⌝ }
+pub fn put_word(h: Head, given: Word) -> Move
+    ensures { λ r. ⌜ ((w : Worth) → given ≡ inBytes w → r ≡ moveOf (pushes h (since (h .found .ands) w))) ⌝ }
 {
-    let ands = h.ands;
-    let w = since_word(ands, found);
+    let found = h.found;
+    let ands = found.ands;
+    let w = since_word(ands, given);
     let on = marked(h, mark_in(w));
     moving(on, Change::Push(word_in(w)), Change::Keep, Placing::Rest)
 }
 
 // An operator's result takes the place of its operands: the first stands below the second.
 pub fn work_words(h: Head, op: Operator, l: u64, m: u64) -> Move
-    ensures { λ r. ⌜ r ≡ moveOf (leaves h (since (h .ands) (worked op m l))) ⌝ }
+    ensures { λ r. ⌜ r ≡ moveOf (leaves h (since (h .found .ands) (worked op m l))) ⌝ }
 {
-    let ands = h.ands;
+    let found = h.found;
+    let ands = found.ands;
     let w = since_word(ands, sums::work(op, m, l));
     let on = marked(h, mark_in(w));
     moving(on, Change::Back(word_in(w)), Change::Keep, Placing::Rest)
@@ -104,9 +110,10 @@ fn tested_by(ands: Truth, f: Function, kind: usize, x: u64, y: u64) -> Truth
 
 // A condition that has the comparison's value takes the place of the two values, for `close` to tell.
 pub fn test_words(h: Head, f: Function, kind: usize, l: u64, m: u64) -> Move
-    ensures { λ r. ⌜ r ≡ moveOf (carried h (Truth.True) (back (level All (tested (h .ands) f kind m l)))) ⌝ }
+    ensures { λ r. ⌜ r ≡ moveOf (carried h (Truth.True) (back (level All (tested (h .found .ands) f kind m l)))) ⌝ }
 {
-    let ands = h.ands;
+    let found = h.found;
+    let ands = found.ands;
     let on = marked(h, Truth::True);
     let top = Level {
         op: Op::All,

@@ -74,29 +74,29 @@ pub inside : (e : Entry) (g : Bags) (long : ℕ) (h : Head) (l m : ℕ) (f b : F
     → h .at + suc (extra e + core g h e l m f b .next .jump) ≤ long
 unfolding core
 inside (begin al c) g long h l m f b w = w
-inside (match t k c s i j x) g long h l m f b w = let z = match-far (andOf (h .ands) (matchOf g t)) k c s i j x (h .ors) (h .sections) (h .reg) in omega (arith, w, z)
+inside (match t k c s i j x) g long h l m f b w = let z = match-far (andOf (h .found .ands) (matchOf g t)) k c s i j x (h .found .ors) (h .found .sections) (h .found .reg) in omega (arith, w, z)
 inside further g long h l m f b w = w
 inside (opens op) g long h l m f b w = w
 inside (compare t n) g long h l m f b w = let z = go (h .nest) in omega (arith, w, z)
   where
-    go : (k : ℕ) → tell (comparisonOf g t) n k l (h .reg) .next .jump ≤ n
+    go : (k : ℕ) → tell (comparisonOf g t) n k l (h .found .reg) .next .jump ≤ n
     go zero = omega arith
-    go (suc k) = past-far (settles l (comparisonOf g t)) n (h .reg)
+    go (suc k) = past-far (settles l (comparisonOf g t)) n (h .found .reg)
 inside (close n) g long h l m f b w = let z = go (h .nest) in omega (arith, w, z)
   where
-    go : (k : ℕ) → closed n k l m (h .reg) .next .jump ≤ n
+    go : (k : ℕ) → closed n k l m (h .found .reg) .next .jump ≤ n
     go zero = omega arith
     go (suc zero) = omega arith
-    go (suc (suc k)) = past-far (settles m (valueIn l)) n (h .reg)
+    go (suc (suc k)) = past-far (settles m (valueIn l)) n (h .found .reg)
 inside (sum (loads k n)) g long h l m f b w = w
 inside (sum (asks key)) g long h l m f b w = w
 inside (sum (works o)) g long h l m f b w = w
 inside (sum (tests y k)) g long h l m f b w = w
-inside (rule e n) g long h l m f b w = let z = past-far (settled (f .alg) (tallied (f .alg) (f .tally) e (Rattle.moves.specs.Core.ruled e (h .reg)) .acc)) n Permit in omega (arith, w, z)
+inside (rule e n) g long h l m f b w = let z = past-far (settled (f .alg) (tallied (f .alg) (f .tally) e (Rattle.moves.specs.Core.ruled e (h .found .reg)) .acc)) n Permit in omega (arith, w, z)
 inside (enter al) g long h l m f b w = w
 inside (applies n) g long h l m f b w = let z = go (b .tally .acc) in omega (arith, w, z)
   where
-    go : (a : Acc) → noted a b n (h .reg) .next .jump ≤ n
+    go : (a : Acc) → noted a b n (h .found .reg) .next .jump ≤ n
     go (Ranked k) = omega arith
     go Nobody = omega arith
     go Pending = omega arith
@@ -110,8 +110,8 @@ inside (conclude n) g long h l m f b w = let z = go (verdictSoFar (f .alg) (f .t
     go NotApplicable = omega arith
     go (Indeterminate s) = omega arith
 inside (oblige e n) g long h l m f b w = w
-inside (leave n) g long h l m f b w = let z = past-far (settled (b .alg) (tallied (b .alg) (b .tally) Permits (h .reg) .acc)) n Permit in omega (arith, w, z)
-inside finish g long h l m f b w = go (both (is (decisionIn (h .reg)) decision.Deny) (ltb (h .permits) (h .denies)))
+inside (leave n) g long h l m f b w = let z = past-far (settled (b .alg) (tallied (b .alg) (b .tally) Permits (h .found .reg) .acc)) n Permit in omega (arith, w, z)
+inside finish g long h l m f b w = go (both (is (decisionIn (h .found .reg)) decision.Deny) (ltb (h .permits) (h .denies)))
   where
     go : (x : Bool) → h .at + suc (0 + finished x h .next .jump) ≤ long
     go true = w

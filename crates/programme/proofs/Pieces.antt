@@ -51,7 +51,7 @@ module _ (g : Bags) (long : ℕ) (h : Head) (which n literal l m : ℕ) (f b : F
 
   -- a word that stands for a worth is put on top
   abbrev Puts : Word → Move → Type 0
-  Puts x v = (w : Worth) → x ≡ inBytes w → v ≡ moveOf (pushes h (since (h .ands) w))
+  Puts x v = (w : Worth) → x ≡ inBytes w → v ≡ moveOf (pushes h (since (h .found .ands) w))
 
   pub load-does : {v : Move} → which ≡ 0 → h .at + 2 ≤ long → literal < 2 ^ 64 → Puts (Holds literal) v
       → Does v 1 ≡ meets g long h (sum (pieceBy which n literal)) l m f b
@@ -69,7 +69,7 @@ module _ (g : Bags) (long : ℕ) (h : Head) (which n literal l m : ℕ) (f b : F
         rw (asks-by which n literal e)
         (does g long h (sum (asks y)) l m f b _ 0 (sym (lawful-fits long (h .at) (sum (asks y)) _ inside refl refl)) (q (theOnly (g (keyBy y))) r) refl)
 
-    pub work-does : {o : Operator} {v : Move} → which ≡ 2 → o ≡ operatorBy n → v ≡ moveOf (leaves h (since (h .ands) (worked o m l)))
+    pub work-does : {o : Operator} {v : Move} → which ≡ 2 → o ≡ operatorBy n → v ≡ moveOf (leaves h (since (h .found .ands) (worked o m l)))
         → Does v 0 ≡ meets g long h (sum (pieceBy which n literal)) l m f b
     unfolding core
     work-does {o} e z q =
@@ -77,7 +77,7 @@ module _ (g : Bags) (long : ℕ) (h : Head) (which n literal l m : ℕ) (f b : F
         (does g long h (sum (works o)) l m f b _ 0 (sym (lawful-fits long (h .at) (sum (works o)) _ inside refl refl)) q refl)
 
     pub test-does : {t : Function} {v : Move} → (which ≡ 0 → ⊥) → (which ≡ 1 → ⊥) → (which ≡ 2 → ⊥) → t ≡ functionOf (n % 8)
-        → v ≡ moveOf (carried h True (back (level All (tested (h .ands) t (n / 8) m l))))
+        → v ≡ moveOf (carried h True (back (level All (tested (h .found .ands) t (n / 8) m l))))
         → Does v 0 ≡ meets g long h (sum (pieceBy which n literal)) l m f b
     unfolding core
     test-does {t} x y z e q =

@@ -70,7 +70,7 @@ stateOf head frames levels places = record { head = head; frames = frames; level
 -- before the first step
 unfoldable pub freshOf : State
 freshOf = record {
-  head = packOf (record { at = 0; depth = 0; nest = 0; permits = 0; denies = 0; cut = 0; reg = Permit; ands = True; ors = False; sections = True; over = false });
+  head = packOf (record { at = 0; depth = 0; nest = 0; permits = 0; denies = 0; cut = 0; found = record { reg = Permit; ands = True; ors = False; sections = True }; over = false });
   frames = replicate roomF 0;
   levels = replicate roomL 0;
   places = replicate roomP 0;

@@ -1,6 +1,7 @@
 // The entries of a programme: what each does, by the programme's length, the first number taken apart, its own number without the kind, and the
 // levels and frames that it sees.
 use crate::Met;
+use layout::Found;
 use layout::Frame;
 use layout::Head;
 use layout::Level;
@@ -140,10 +141,11 @@ fn match_at(programme: &[u64], request: &[u8], h: Head, n: u64) -> Met
     if !reaches(programme.len() as u64, h.at + 2, far) {
         return Met::Outside;
     }
-    let ands = h.ands;
-    let ors = h.ors;
-    let sections = h.sections;
-    let reg = h.reg;
+    let found = h.found;
+    let ands = found.ands;
+    let ors = found.ors;
+    let sections = found.sections;
+    let reg = found.reg;
     let t = test_by(n, n / 128 % 4294967296, literal);
     let v = meaning::and3(ands, request::matches(request, t));
     let on = match_done(v, s, ors, sections, reg);
@@ -164,7 +166,8 @@ fn compare_at(programme: &[u64], request: &[u8], h: Head, n: u64, l: u64) -> Met
     if !reaches(programme.len() as u64, h.at + 1, jump) {
         return Met::Outside;
     }
-    let reg = h.reg;
+    let found = h.found;
+    let reg = found.reg;
     let t = test_by(n, n / 16 % 4294967296, literal);
     let v = request::comparison(request, t);
     Met::Does(tell_level(v, jump, h.nest, l, reg), 1)
@@ -181,7 +184,7 @@ fn open_at(long: u64, h: Head, n: u64) -> Met
         val: start_of(op),
     };
     let m = moving(
-        unchanged(h, 0),
+        unchanged(h),
         Change::Push(level_word(top)),
         Change::Keep,
         Placing::Rest,
@@ -193,7 +196,8 @@ fn close_at(long: u64, h: Head, n: u64, l: u64, m: u64) -> Met
     requires { ⌜ h .at < long ⌝ }
     ensures { λ r. ⌜ ((g : Bags) (f b : Frame) → r ≡ meets g long h (close n) l m f b) ⌝ }
 {
-    let reg = h.reg;
+    let found = h.found;
+    let reg = found.reg;
     let closes = close_level(n, h.nest, l, m, reg);
     unless_outside(reaches(long, h.at, n), closes, 0)
 }
@@ -238,7 +242,8 @@ fn rule_at(long: u64, h: Head, n: u64, f: u64) -> Met
     let top = frame_of(f);
     let alg = top.alg;
     let tally = top.tally;
-    let reg = h.reg;
+    let found = h.found;
+    let reg = found.reg;
     let k = algorithm::tally::take_in(alg, tally, e, ruled_by(e, reg));
     let acc = k.acc;
     let on = past_if(algorithm::settles(alg, acc), jump, Verdict::Permit);
@@ -251,16 +256,19 @@ fn enter_at(long: u64, h: Head, n: u64) -> Met
     requires { ⌜ (h .at < long) × Held h ⌝ }
     ensures { λ r. ⌜ ((g : Bags) (l m : ℕ) (f b : Frame) → r ≡ meets g long h (enter (algorithmBy n)) l m f b) ⌝ }
 {
-    let ands = h.ands;
-    let ors = h.ors;
-    let sections = h.sections;
+    let found = h.found;
+    let ands = found.ands;
+    let ors = found.ors;
+    let sections = found.sections;
     let w = entered(n, h.permits, h.denies);
     let on = Next {
         jump: 0,
-        reg: Verdict::Permit,
-        ands,
-        ors,
-        sections,
+        found: Found {
+            reg: Verdict::Permit,
+            ands,
+            ors,
+            sections,
+        },
     };
     unless_outside(
         true,
@@ -273,7 +281,8 @@ fn applies_at(long: u64, h: Head, n: u64, b: u64) -> Met
     requires { ⌜ h .at < long ⌝ }
     ensures { λ r. ⌜ ((g : Bags) (l m : ℕ) (f : Frame) → r ≡ meets g long h (applies n) l m f (frameOf b)) ⌝ }
 {
-    let reg = h.reg;
+    let found = h.found;
+    let reg = found.reg;
     let m = note_in(frame_of(b), n, reg);
     unless_outside(reaches(long, h.at, n), m, 0)
 }
@@ -296,7 +305,8 @@ fn oblige_at(long: u64, h: Head, n: u64) -> Met
 {
     let number = n / 2;
     let e = effect_by(n % 2);
-    let reg = h.reg;
+    let found = h.found;
+    let reg = found.reg;
     let placing = pushed_by(e, reg, number);
     let m = moving(cleared(0, reg), Change::Keep, Change::Keep, placing);
     unless_outside(number < 65536, m, 0)
@@ -309,7 +319,8 @@ fn leave_at(long: u64, h: Head, n: u64, b: u64) -> Met
     let under = frame_of(b);
     let alg = under.alg;
     let tally = under.tally;
-    let reg = h.reg;
+    let found = h.found;
+    let reg = found.reg;
     let k = algorithm::tally::take_in(alg, tally, Effect::Permits, reg);
     let acc = k.acc;
     let on = past_if(algorithm::settles(alg, acc), n, Verdict::Permit);
@@ -348,7 +359,7 @@ fn ending_by(h: Head, over: bool, placing: Placing) -> Move
     ensures { λ r. ⌜ r ≡ moveOf (ending h over placing) ⌝ }
 {
     Move {
-        next: unchanged(h, 0),
+        next: unchanged(h),
         over,
         levels: Change::Keep,
         frames: Change::Keep,
@@ -358,9 +369,10 @@ fn ending_by(h: Head, over: bool, placing: Placing) -> Move
 
 fn finish_by(h: Head) -> Move
     requires { ⌜ Held h ⌝ }
-    ensures { λ r. ⌜ r ≡ moveOf (finished (both (is (decisionIn (h .reg)) Deny) (ltb (h .permits) (h .denies))) h) ⌝ }
+    ensures { λ r. ⌜ r ≡ moveOf (finished (both (is (decisionIn (h .found .reg)) Deny) (ltb (h .permits) (h .denies))) h) ⌝ }
 {
-    let reg = h.reg;
+    let found = h.found;
+    let reg = found.reg;
     if !is_deny(reg) {
         return ending_by(h, true, Placing::Rest);
     }

@@ -184,7 +184,7 @@ module _ (s : State) (n : ℕ) (out : List ℕ) (v : Verdict) (count : ℕ) wher
   finished-over false e = let z : _≡_ {A = ℕ} 0 1 = cc in absurd (omega arith)
 
   finished-says : answered true s n out .tick .answer ≡ Finished v count
-      → (unpackOf (s .head) .reg ≡ v) × (countOf s ≡ count)
+      → (unpackOf (s .head) .found .reg ≡ v) × (countOf s ≡ count)
   unfolding answered
   finished-says e = (ap verdict e, ap number e)
     where

@@ -55,10 +55,10 @@ TakesTheSmaller =
 -- its answer is read off the first number that it leaves: running, or finished, with which decision and code and how many obligations; these are the first
 -- places, in order, and the output gets them
 abbrev pub answerBy : Head → Answer
-answerBy h = if (h .over) (Finished (h .reg) (countBy (h .reg) h)) Running
+answerBy h = if (h .over) (Finished (h .found .reg) (countBy (h .found .reg) h)) Running
 
 abbrev pub outBy : Head → List ℕ → List ℕ → List ℕ
-outBy h places out = if (h .over) (take (countBy (h .reg) h) places ++ replicate (length out - countBy (h .reg) h) 0) out
+outBy h places out = if (h .over) (take (countBy (h .found .reg) h) places ++ replicate (length out - countBy (h .found .reg) h) 0) out
 
 abbrev pub FirstNumberSays : Type 0
 FirstNumberSays =

@@ -162,13 +162,13 @@ filled xs d m out n k l e f =
 
 -- what the first number says
 abbrev pub told : Bool → Head → Answer
-told b h = if b (Finished (h .reg) (countBy (h .reg) h)) Running
+told b h = if b (Finished (h .found .reg) (countBy (h .found .reg) h)) Running
 
 module _ (h : Head) where
   pub answer-running : h .over ≡ false → Running ≡ told (h .over) h
   answer-running e = sym (ap (λ (b : Bool). told b h) e)
 
-  pub answer-finished : (n : ℕ) → n ≡ countBy (h .reg) h → h .over ≡ true → Finished (h .reg) n ≡ told (h .over) h
+  pub answer-finished : (n : ℕ) → n ≡ countBy (h .found .reg) h → h .over ≡ true → Finished (h .found .reg) n ≡ told (h .over) h
   answer-finished n c e = rw c (sym (ap (λ (b : Bool). told b h) e))
 
 -- a tick
@@ -212,18 +212,18 @@ module _ (p q : List ℕ) (s : State) (b : ℕ) (out : List ℕ) where
       unfolding answered
       tick-running z f = (rw (d ∙ sym (answer-running h z), ended false z) refl, rw (f, ended false z) refl)
 
-      pub tick-finished : (x : ℕ) → x ≡ countBy (h .reg) h → h .over ≡ true → o ≡ take x (r .state .places) ++ replicate (length out - x) 0
+      pub tick-finished : (x : ℕ) → x ≡ countBy (h .found .reg) h → h .over ≡ true → o ≡ take x (r .state .places) ++ replicate (length out - x) 0
           → TickIs (record { state = r .state; steps = r .steps; answer = y }) o
       unfolding answered countOf firstPlaces
       tick-finished x c z f = (rw (d ∙ sym (answer-finished h x c z), ended true z, c, u) refl, rw (f, ended true z, c, u) refl)
 
 -- a run's end is a state that the layout allows, so its obligations are at most 1,000
 pub count-small : (p : List ℕ) (g : Bags) (b : ℕ) (s : State) (k : Bool) (r : Ran) (h : Head) (x : ℕ) → k ≡ admitted (length p) (s .head) → k ≡ true
-    → r ≡ runOf p g b s → h ≡ unpackOf (r .state .head) → x ≡ countBy (h .reg) h → x ≤ roomP
+    → r ≡ runOf p g b s → h ≡ unpackOf (r .state .head) → x ≡ countBy (h .found .reg) h → x ≤ roomP
 count-small p g b s k r h x m z ran u c =
     let w = admit-parts (length p) (s .head) k m z in
     let d : allowed (r .state .head) ≡ true = rw ran (runs-stay-allowed p g b s (w .0) (w .1)) in
-    rw c (go (h .reg) (rw u (ranged (r .state .head) d)))
+    rw c (go (h .found .reg) (rw u (ranged (r .state .head) d)))
   where
     go : (y : Verdict) → Ranged h → countBy y h ≤ roomP
     go Permit l = l .permits

@@ -35,7 +35,7 @@ refused r s out = record { tick = record { state = s; steps = 0; answer = Refuse
 
 -- the obligations of a finished state are its first places
 unfoldable pub countOf : State → ℕ
-countOf s = let h = unpackOf (s .head) in countBy (h .reg) h
+countOf s = let h = unpackOf (s .head) in countBy (h .found .reg) h
 
 unfoldable pub firstPlaces : State → List ℕ
 firstPlaces s = take (countOf s) (s .places)
@@ -44,7 +44,7 @@ firstPlaces s = take (countOf s) (s .places)
 unfoldable pub answered : Bool → State → ℕ → List ℕ → Ticked
 answered false s n out = record { tick = record { state = s; steps = n; answer = Running }; out = out }
 answered true s n out = record {
-  tick = record { state = s; steps = n; answer = Finished (unpackOf (s .head) .reg) (countOf s) };
+  tick = record { state = s; steps = n; answer = Finished (unpackOf (s .head) .found .reg) (countOf s) };
   out = firstPlaces s ++ replicate (length out - countOf s) 0;
 }
 

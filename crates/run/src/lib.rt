@@ -185,9 +185,10 @@ fn admits(long: usize, head: u64) -> bool
 
 // How many obligations a finished run has.
 fn count(h: Head) -> u64
-    ensures { λ r. ⌜ r ≡ countBy (h .reg) h ⌝ }
+    ensures { λ r. ⌜ r ≡ countBy (h .found .reg) h ⌝ }
 {
-    let reg = h.reg;
+    let found = h.found;
+    let reg = found.reg;
     match reg {
         Verdict::Permit => h.permits,
         Verdict::Deny => h.denies,
@@ -198,12 +199,13 @@ fn count(h: Head) -> u64
 
 // What the first number says of the run.
 fn answer(h: Head) -> Answer
-    ensures { λ r. ⌜ r ≡ if (h .over) (Finished (h .reg) (countBy (h .reg) h)) Running ⌝ }
+    ensures { λ r. ⌜ r ≡ if (h .over) (Finished (h .found .reg) (countBy (h .found .reg) h)) Running ⌝ }
 {
     if !h.over {
         return Answer::Running;
     }
-    let verdict = h.reg;
+    let found = h.found;
+    let verdict = found.reg;
     Answer::Finished(verdict, count(h))
 }
 

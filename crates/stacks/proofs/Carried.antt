@@ -130,10 +130,7 @@ module _ (h : Head) (further : ℕ) (m : Move) where
       permits = s .permits;
       denies = s .denies;
       cut = s .cut;
-      reg = m .next .reg;
-      ands = m .next .ands;
-      ors = m .next .ors;
-      sections = m .next .sections;
+      found = m .next .found;
       over = m .over;
     }
 

@@ -33,10 +33,7 @@ headTo h further depth nest n over z = record {
   permits = permitsAfter z (h .cut) (h .permits);
   denies = deniesAfter z (h .cut) roomP (h .denies);
   cut = cutAfter z (h .cut);
-  reg = n .reg;
-  ands = n .ands;
-  ors = n .ors;
-  sections = n .sections;
+  found = n .found;
   over = over;
 }
 

@@ -153,10 +153,7 @@ pub fn carry_out(
     let depth = alter(frames, h.depth as usize, frames_change);
     let nest = alter(levels, h.nest as usize, levels_change);
     let s = place(places, placing, h.cut, h.permits, h.denies);
-    let reg = next.reg;
-    let ands = next.ands;
-    let ors = next.ors;
-    let sections = next.sections;
+    let found = next.found;
     Head {
         at: h.at + 1 + further + next.jump,
         depth: depth as u64,
@@ -164,10 +161,7 @@ pub fn carry_out(
         permits: s.permits,
         denies: s.denies,
         cut: s.cut,
-        reg,
-        ands,
-        ors,
-        sections,
+        found,
         over: m.over,
     }
 }

@@ -5,14 +5,11 @@ use Rattle.layout.proofs.unpack.Tie as tie
 
 returns : tie.Need-returns
 unfolding unpackOf
-returns c = rw (c .before .before .before .verdict-by .ensures, c .before .before .truth-by .ensures, c .before .truth-by2 .ensures, c .truth-by3 .ensures)
+returns c = rw (c .found-by .ensures)
 
 pub unpack-spec : {M : Type 1} → statement M
 unpack-spec =
     tie.close
     (tie.spec
-    (λ c κs. search needs)
-    (λ c κs. search needs)
-    (λ c κs. search needs)
     (λ c κs. search needs)
     returns)

@@ -19,7 +19,7 @@ returns-2 c = λ m f b. outside _ _ _ _ _ m f b (compare-lawful _ _ _ _ ∙ (sym
 returns-3 : tie.Need-returns-3
 unfolding core compareBy
 returns-3 c =
-    let reached = c .before .before .before in
+    let reached = c .before .before .before .before in
     let a = reached .before .before .before .before .before .before .before .args in
     let p = a .programme .now in
     λ m f b. does _ _ (a .h) (compareBy (a .n) (getD p (a .h .at + 1) 0)) (a .l) m f b _ _ (compare-lawful _ _ _ _ ∙ (sym (reached .before .reaches .ensures) ∙ not-false _ (reached .if2 .left))) (rw (c .tell-level .ensures, c .before .comparison .ensures, c .before .before .test-by .ensures)) refl
