@@ -192,7 +192,8 @@ walk-child-requires t c κs =
 
 walk-settle-requires : (t : ℕ) → walk-lts.Need-settle-requires (walk-calls t) (walk-at t) walk.Post walk-Inv-loop walk-μ-loop
 walk-settle-requires t c κs =
-    let decided = c .before .before .before .before .before .before .before .before .before in
+    let stood = c .before .before .before .before .before in
+    let decided = stood .before .before .before .before in
     let spanned = decided .before .before .before .before in
     let turn = spanned .before in
     let start = turn .before .before .before .before .before .before in
@@ -218,10 +219,20 @@ walk-returns t c =
     walk-stop (start .pre .1 .3) sofar (turn .loop-test .taken) (spanned .span-in .ensures .0) (decided .before .before .before .is-party .ensures) (not-false _ (decided .before .before .if1 .left)) (decided .child .ensures) (decided .child .kept .1 .1 .1 .1 .1 .0) (stood .before .decision-in .ensures) (stood .outcome .ensures) (settled .before .before .before .before .before .take-in .ensures) (settled .before .before .before .before .outcome2 .ensures) (settled .before .before .stay .ensures) (settled .before .stay2 .ensures) (c .before .before .settles .ensures) (settled .settle .ensures) (omega (arith, start .pre .1 .1)) (omega (arith, sofar .room, sofar .kept, start .pre .1 .1)) (c .before .if2 .taken) (c .verdict .ensures)
 
 walk-sub-left-2 : (t : ℕ) → walk-lts.Need-sub-left-2 (walk-calls t) (walk-at t) walk.Post walk-Inv-loop walk-μ-loop
-walk-sub-left-2 t c = let spanned = c .before .before .before .before .before .before .before .before .before .before .before .before .before .before .before .before .before .before in omega (arith, spanned .span-in .ensures .1 .1)
+walk-sub-left-2 t c =
+    let settled = c .before .before .before .before in
+    let stood = settled .before .before .before .before .before .before in
+    let decided = stood .before .before .before .before in
+    let spanned = decided .before .before .before .before in
+    omega (arith, spanned .span-in .ensures .1 .1)
 
 walk-loop-less-2 : (t : ℕ) → walk-lts.Need-loop-less-2 (walk-calls t) (walk-at t) walk.Post walk-Inv-loop walk-μ-loop
-walk-loop-less-2 t c = let spanned = c .before .before .before .before .before .before .before .before .before .before .before .before .before .before .before .before .before .before in omega (arith, spanned .span-in .ensures .1 .0, spanned .span-in .ensures .1 .1)
+walk-loop-less-2 t c =
+    let settled = c .before .before .before .before in
+    let stood = settled .before .before .before .before .before .before in
+    let decided = stood .before .before .before .before in
+    let spanned = decided .before .before .before .before in
+    omega (arith, spanned .span-in .ensures .1 .0, spanned .span-in .ensures .1 .1)
 
 walk-loop-again-2 : (t : ℕ) → walk-lts.Need-loop-again-2 (walk-calls t) (walk-at t) walk.Post walk-Inv-loop walk-μ-loop
 walk-loop-again-2 t c =
