@@ -14,8 +14,8 @@ ghost use Prim.Native.Nat.{_+_, _*_, _-_, _<_, _≤_};
 ghost use lib.ListN.{length};
 ghost use Rattle.record.specs.Bytes.{size};
 ghost use Rattle.record.specs.Forest.{forest, height};
-ghost use Rattle.meaning.specs.Meaning.{is, verdictIn, owed, isOnly, verdictOf, ownOf, binding};
-ghost use Rattle.meaning.specs.Reading.{obligationsIn, bagsOf};
+ghost use Rattle.meaning.specs.Meaning.{targetOf, is, verdictIn, owed, isOnly, verdictOf, ownOf, binding};
+ghost use Rattle.meaning.specs.Reading.{targetIn, obligationsIn, bagsOf};
 ghost use Rattle.fields.specs.Fields.{obligationsOf};
 ghost use Rattle.decider.specs.Outcome.{outcomeOf, outOf};
 ghost use Rattle.decider.specs.Inside.{Answered, childAt, childrenIn, isDue, keeps, upOf, upAt, directOf, roomOf, deepOf, Put, Ruled, Picked, picking, isMany};
@@ -168,7 +168,7 @@ fn choose(book: &[u8], request: &[u8], from: usize, count: usize) -> Pick
     p
 }
 
-// Record i with the span s as its parent sees it: its verdict, and its obligations on top of n places. `depth` levels may lie below it.
+// Record i with the span s as its parent sees it, where t is its target: its verdict, and its obligations on top of n places. `depth` levels may lie below it.
 fn child(
     book: &[u8],
     request: &[u8],
@@ -177,14 +177,15 @@ fn child(
     depth: usize,
     out: &mut [u16],
     n: usize,
+    t: Truth,
 ) -> Ruling
     requires { ⌜ (0 < s) × ((i + s) * size ≤ length (now book)) × (n + roomOf (now book) (forest (now book) (i + 1) (s - 1)) ≤ length (now out))
-        × (height (forest (now book) (i + 1) (s - 1)) ≤ depth) ⌝ }
+        × (height (forest (now book) (i + 1) (s - 1)) ≤ depth)
+        × (t ≡ targetOf (bagsOf (now request)) (targetIn (now book) (forest (now book) (i + 1) (s - 1)))) ⌝ }
     ensures { λ r. ⌜ Ruled (now (out .entry)) n (verdictIn (childAt (now (book .entry)) (bagsOf (now (request .entry))) i s))
         (owed (childAt (now (book .entry)) (bagsOf (now (request .entry))) i s .target) (childAt (now (book .entry)) (bagsOf (now (request .entry))) i s .duties))
         (roomOf (now (book .entry)) (forest (now (book .entry)) (i + 1) (s - 1))) (now (out .exit)) (r .verdict) (r .count) ⌝ }
 {
-    let t = rules::target(book, request, i + 1, s - 1);
     match t {
         Truth::False => Ruling {
             verdict: Verdict::NotApplicable,
@@ -295,7 +296,8 @@ fn walk(
             continue;
         }
         let next = i + s;
-        let r = child(book, request, i, s, depth - 1, out, m);
+        let t = rules::target(book, request, i + 1, s - 1);
+        let r = child(book, request, i, s, depth - 1, out, m, t);
         let v = r.verdict;
         let e = r.count;
         let d = meaning::decision_in(v);
@@ -330,7 +332,8 @@ fn answer(book: &[u8], request: &[u8], records: usize, out: &mut [u16]) -> Rulin
         × (height (forest (now book) 1 (records - 1)) ≤ 15) ⌝ }
     ensures { λ r. ⌜ Answered (now (book .entry)) (now (request .entry)) (now (out .entry)) (now (out .exit)) (r .verdict) (r .count) ⌝ }
 {
-    let r = child(book, request, 0, records, MOST_BELOW, out, 0);
+    let t = rules::target(book, request, 1, records - 1);
+    let r = child(book, request, 0, records, MOST_BELOW, out, 0, t);
     let n = r.count;
     lent::clear(out, n);
     r

@@ -12,21 +12,25 @@ use Rattle.record.specs.Forest.{Forest, none, node, spanIn, forest}
 use Rattle.record.proofs.Forests.{span-pos, span-le, forest-none, forest-step, forest-more}
 use Rattle.value.specs.Value.{functionOf}
 use Rattle.sums.specs.declared.Status.{Status}
-use Rattle.meaning.specs.Logic.{andAll, orAll, notOf}
+use Rattle.meaning.specs.Logic.{orElse, andAll, orAll, notOf}
 use Rattle.meaning.specs.Policy.{compares, weighs, OverRules, rulesDeny, rulesPermit, rulesFirst}
-use Rattle.meaning.specs.Meaning.{Bags, matchOf, comparisonOf, conditionOf, conditionsOf, each, conjunctionOf, sectionOf, sectionsOf, targetOf, under, effected, whenOf, ruleOf, isOnly, verdictOf, overRules, ruleChild, ruleChildren}
+use Rattle.meaning.specs.Meaning.{Bags, matchOf, comparisonOf, conditionOf, conditionsOf, each, conjunctionOf, sectionOf, sectionsOf, targetOf, under, effected, coded, decisionIn, causeIn, whenOf, ruleOf, isOnly, verdictOf, overRules, ruleChild, ruleChildren}
 use Rattle.meaning.specs.Reading.{choiceAt, matchAt, comparisonAt, rowOf, childrenAt, conjunctionAt, sectionAt, targetIn, exprsIn, weighsAt, conditionAt, conditionFrom, conditionsIn, whenIn, effectOf, ruleAt, rulesIn}
 use Rattle.meaning.specs.declared.Test.{Test}
 use Rattle.meaning.specs.declared.Truth.{Truth}
 use Rattle.meaning.specs.declared.Truth.the-variants.{True, False, Unknown}
 use Rattle.meaning.specs.declared.Effect.{Effect}
+use Rattle.meaning.specs.declared.Decision.{Decision}
+use Rattle.meaning.specs.declared.Cause.{Cause}
+use Rattle.meaning.specs.declared.Cause.the-variants.{NoCause}
 use Rattle.meaning.specs.declared.Verdict.{Verdict}
 use Rattle.meaning.specs.declared.Verdict.the-variants.{NotApplicable, Indeterminate}
 use Rattle.meaning.specs.declared.Algorithm.{Algorithm}
 use Rattle.weigh.specs.Two.{secondIn}
 use Rattle.weigh.proofs.Laws.{few}
-use Rattle.algorithm.specs.Fold.{settled}
-use Rattle.algorithm.specs.Tally.{fresh, tallied, verdictSoFar}
+use Rattle.algorithm.specs.Fold.{start, result, settled, absorb}
+use Rattle.algorithm.specs.Tally.{verdictSoFar}
+use Rattle.algorithm.specs.declared.Acc.{Acc}
 use Rattle.algorithm.specs.declared.tally.Tally.{Tally}
 use Rattle.algorithm.proofs.Causes.{tallies, walks, verdict-right, walks-more}
 
@@ -191,21 +195,21 @@ module _ (b : List ℕ) (g : Bags) (i : ℕ) (kids : Forest) {x : Truth} (e : x 
   unfolding ruleOf ruleAt
   rule-yes q ec ef et eo ev = rw (← e, q, ← ec, ← ef, ← et, ← eo) ev
 
--- what an algorithm over rules that has k so far is still to say of the rules in a forest
-unfoldable pub ruled : List ℕ → Bags → Algorithm → Tally → Forest → Verdict
-ruled b g a k rest = verdictSoFar a (walks a k (ruleChildren g (rulesIn b rest)))
+-- what an algorithm over rules that keeps acc and cause so far is still to say of the rules in a forest
+unfoldable pub ruled : List ℕ → Bags → Algorithm → Acc → Cause → Forest → Verdict
+ruled b g a acc cause rest = verdictSoFar a (walks a (record { acc = acc; cause = cause }) (ruleChildren g (rulesIn b rest)))
 
-pub rules-all : (b : List ℕ) (g : Bags) (f : Forest) (a : Algorithm) {k : Tally} (r : OverRules) → a ≡ overRules r → k ≡ fresh a
-    → ruled b g a k f ≡ verdictOf (overRules r) (ruleChildren g (rulesIn b f))
+pub rules-all : (b : List ℕ) (g : Bags) (f : Forest) (a : Algorithm) {acc : Acc} (r : OverRules) → a ≡ overRules r → acc ≡ start a
+    → ruled b g a acc NoCause f ≡ verdictOf (overRules r) (ruleChildren g (rulesIn b f))
 unfolding ruled
 rules-all b g f a r er e = rw (e, ← er) (verdict-right a (ruleChildren g (rulesIn b f)))
 
-pub rules-end : (b : List ℕ) (g : Bags) (i left : ℕ) (a : Algorithm) (k : Tally) {v w : Verdict} → left ≤ 0 → v ≡ verdictSoFar a k
-    → ruled b g a k (forest b i left) ≡ w → v ≡ w
+pub rules-end : (b : List ℕ) (g : Bags) (i left : ℕ) (a : Algorithm) (acc : Acc) (cause : Cause) {d : Decision} {v w : Verdict} → left ≤ 0
+    → d ≡ result a acc → v ≡ coded d cause → ruled b g a acc cause (forest b i left) ≡ w → v ≡ w
 unfolding ruled walks ruleChildren rulesIn
-rules-end b g i left a k h ev p = ev ∙ (rw (forest-none b i left h) at p)
+rules-end b g i left a acc cause h ed ev p = rw (ev, ed) (rw (forest-none b i left h) at p)
 
--- over rules no algorithm is only-one-applicable, so a rule is taken in by its verdict
+-- over rules no algorithm is only-one-applicable, so a rule is taken in by its verdict, and the first cause counts
 pub not-only : (a : Algorithm) (r : OverRules) → a ≡ overRules r → isOnly a ≡ false
 not-only a r e = rw e (each-is r)
   where
@@ -214,27 +218,34 @@ not-only a r e = rw e (each-is r)
     each-is rulesPermit = refl
     each-is rulesFirst = refl
 
-takes-rule : (b : List ℕ) (g : Bags) (i : ℕ) (kids : Forest) (a : Algorithm) (k : Tally) {c : ℕ} {f : Effect} {v : Verdict} {next : Tally}
-    → isOnly a ≡ false → c ≡ byteOf b i 1 → f ≡ effectOf c → v ≡ ruleOf g (ruleAt b i kids) → next ≡ tallied a k f v
-    → tallies a k (ruleChild g (ruleAt b i kids)) ≡ next
+takes-rule : (b : List ℕ) (g : Bags) (i : ℕ) (kids : Forest) (a : Algorithm) (acc : Acc) (cause : Cause) {c : ℕ} {f : Effect} {v : Verdict} {d : Decision} {now : Cause}
+    {next : Tally} → isOnly a ≡ false → c ≡ byteOf b i 1 → f ≡ effectOf c → v ≡ ruleOf g (ruleAt b i kids) → d ≡ decisionIn v → now ≡ causeIn v
+    → next .acc ≡ absorb a acc f d → next .cause ≡ orElse cause now → tallies a (record { acc = acc; cause = cause }) (ruleChild g (ruleAt b i kids)) ≡ next
 unfolding ruleChild ruleAt
-takes-rule b g i kids a k o ec ef ev en = rw (o, en, ev, ef, ec, o)
+takes-rule b g i kids a acc cause o ec ef ev ed en ea ey = rw (o, ea, ey, ed, en, ev, ef, ec)
 
-module _ (b : List ℕ) (g : Bags) (i left : ℕ) (a : Algorithm) (k : Tally) {s kind : ℕ} {w : Verdict}
-    (some : 0 < left) (e : s ≡ spanIn b i left) (ek : kind ≡ byteOf b i 0) (p : ruled b g a k (forest b i left) ≡ w) where
-  pub rules-skip : (kind ≡ 3 → ⊥) → ruled b g a k (forest b (i + s) (left - s)) ≡ w
+module _ (b : List ℕ) (g : Bags) (i left : ℕ) (a : Algorithm) (acc : Acc) (cause : Cause) {s kind : ℕ} {w : Verdict}
+    (some : 0 < left) (e : s ≡ spanIn b i left) (ek : kind ≡ byteOf b i 0) (p : ruled b g a acc cause (forest b i left) ≡ w) where
+  pub rules-skip : (kind ≡ 3 → ⊥) → ruled b g a acc cause (forest b (i + s) (left - s)) ≡ w
   unfolding ruled rulesIn
   rules-skip q = rw (forest-more b i left some e, ← ek, ne-eqb kind 3 q) at p
 
-  module _ {c : ℕ} {f : Effect} {v : Verdict} {next : Tally} {t : Bool} (q : kind ≡ 3) (o : isOnly a ≡ false) (ec : c ≡ byteOf b i 1) (ef : f ≡ effectOf c)
-      (ev : v ≡ ruleOf g (ruleAt b i (forest b (i + 1) (s - 1)))) (en : next ≡ tallied a k f v) (et : t ≡ settled a (next .acc)) where
+  module _ {c : ℕ} {f : Effect} {v : Verdict} {d : Decision} {now : Cause} {x : Acc} {y : Cause} {t : Bool} (q : kind ≡ 3) (o : isOnly a ≡ false) (ec : c ≡ byteOf b i 1)
+      (ef : f ≡ effectOf c) (ev : v ≡ ruleOf g (ruleAt b i (forest b (i + 1) (s - 1)))) (ed : d ≡ decisionIn v) (ex : x ≡ absorb a acc f d) (en : now ≡ causeIn v)
+      (ey : y ≡ orElse cause now) (et : t ≡ settled a x) where
+    next : Tally
+    next = record { acc = x; cause = y }
+
     more : verdictSoFar a (if t next (walks a next (ruleChildren g (rulesIn b (forest b (i + s) (left - s)))))) ≡ w
-    unfolding ruled rulesIn ruleChildren
-    more = rw et (rw (forest-more b i left some e, ← ek, q, walks-more a k _ _ (takes-rule b g i (forest b (i + 1) (s - 1)) a k o ec ef ev en)) at p)
+    unfolding ruled rulesIn ruleChildren next
+    more =
+        rw et
+        (rw (forest-more b i left some e, ← ek, q, walks-more a (record { acc = acc; cause = cause }) _ _ (takes-rule b g i (forest b (i + 1) (s - 1)) a acc cause o ec ef ev ed en ex ey)) at p)
 
-    pub rules-stop : {x : Verdict} → t ≡ true → x ≡ verdictSoFar a next → x ≡ w
-    rules-stop z ex = ex ∙ (rw z at more)
+    pub rules-stop : {k : Decision} {r : Verdict} → t ≡ true → k ≡ result a x → r ≡ coded k y → r ≡ w
+    unfolding next
+    rules-stop z ek er = rw (er, ek) (rw z at more)
 
-    pub rules-turn : t ≡ false → ruled b g a next (forest b (i + s) (left - s)) ≡ w
-    unfolding ruled
+    pub rules-turn : t ≡ false → ruled b g a x y (forest b (i + s) (left - s)) ≡ w
+    unfolding ruled next
     rules-turn z = rw z at more

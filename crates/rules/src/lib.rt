@@ -1,4 +1,5 @@
 // Targets, conditions and rules, decided on the records themselves. `s` is a record's span; `count` records from `from` on are a record's children.
+use meaning::Cause;
 use meaning::Effect;
 use meaning::Test;
 use meaning::Truth;
@@ -277,7 +278,8 @@ pub fn rules(book: &[u8], request: &[u8], from: usize, count: usize, choice: usi
     let a = meaning::over_rules(choice);
     let mut i = from;
     let mut left = count;
-    let mut k = algorithm::tally::begin(a);
+    let mut acc = algorithm::begin(a);
+    let mut cause = Cause::NoCause;
     while 0 < left {
         let s = record::span_in(book, i, left);
         let kind = record::byte(book, i, 0);
@@ -288,13 +290,14 @@ pub fn rules(book: &[u8], request: &[u8], from: usize, count: usize, choice: usi
         }
         let e = effect_of(record::byte(book, i, 1));
         let v = rule(book, request, i, s);
-        k = algorithm::tally::take_in(a, k, e, v);
-        let acc = k.acc;
+        acc = algorithm::take_in(a, acc, e, meaning::decision_in(v));
+        // No algorithm over rules is only-one, so the first cause counts.
+        cause = meaning::or_else(cause, meaning::cause_in(v));
         if algorithm::settles(a, acc) {
-            return algorithm::tally::verdict(a, k);
+            return meaning::coded(algorithm::outcome(a, acc), cause);
         }
         i += s;
         left -= s;
     }
-    algorithm::tally::verdict(a, k)
+    meaning::coded(algorithm::outcome(a, acc), cause)
 }

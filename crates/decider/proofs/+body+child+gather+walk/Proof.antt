@@ -81,13 +81,13 @@ abbrev body-calls : ℕ → body-lts.Claims
 body-calls t = (gather-below t, gather.Post, decision-in-reads.Asked, decision-in-reads.Learnt, own-reads.Asked, own-reads.Learnt)
 
 abbrev child-calls : ℕ → child-lts.Claims
-child-calls t = (target-reads.Asked, target-reads.Learnt, body-below t, body.Post)
+child-calls t = (body-below t, body.Post)
 
 abbrev gather-calls : ℕ → gather-lts.Claims
 gather-calls t = (byte-reads.Asked, byte-reads.Learnt, rules-reads.Asked, rules-reads.Learnt, over-policies-reads.Asked, over-policies-reads.Learnt, is-only-reads.Asked, is-only-reads.Learnt, choose-reads.Asked, choose-reads.Learnt, body-below t, body.Post, walk-below t, walk.Post)
 
 abbrev walk-calls : ℕ → walk-lts.Claims
-walk-calls t = (begin-reads.Asked, begin-reads.Learnt, span-in-reads.Asked, span-in-reads.Learnt, is-party-reads.Asked, is-party-reads.Learnt, child-below t, child.Post, decision-in-reads.Asked, decision-in-reads.Learnt, outcome-reads.Asked, outcome-reads.Learnt, take-in-reads.Asked, take-in-reads.Learnt, stay-reads.Asked, stay-reads.Learnt, settle-reads.Asked, settle-reads.Learnt, settles-reads.Asked, settles-reads.Learnt, verdict-reads.Asked, verdict-reads.Learnt)
+walk-calls t = (begin-reads.Asked, begin-reads.Learnt, span-in-reads.Asked, span-in-reads.Learnt, is-party-reads.Asked, is-party-reads.Learnt, target-reads.Asked, target-reads.Learnt, child-below t, child.Post, decision-in-reads.Asked, decision-in-reads.Learnt, outcome-reads.Asked, outcome-reads.Learnt, take-in-reads.Asked, take-in-reads.Learnt, stay-reads.Asked, stay-reads.Learnt, settle-reads.Asked, settle-reads.Learnt, settles-reads.Asked, settles-reads.Learnt, verdict-reads.Asked, verdict-reads.Learnt)
 
 body-gather-requires : (t : ℕ) → body-lts.Need-gather-requires (body-calls t) (body-at t) body.Post
 body-gather-requires t c κs =
@@ -105,17 +105,19 @@ body-returns t c = body-own _ _ _ _ (c .before .before .before .before .before .
 
 child-body-requires : (t : ℕ) → child-lts.Need-body-requires (child-calls t) (child-at t) child.Post
 child-body-requires t c κs =
-    let start = c .before .before .before .before .before .before .before in
+    let start = c .before .before .before .before .before .before in
     (omega arith, (start .pre .1 .0, start .pre .1 .1, start .pre .1 .2, start .pre .1 .3))
 
 child-returns : (t : ℕ) → child-lts.Need-returns (child-calls t) (child-at t) child.Post
-child-returns t c = child-no _ _ _ _ (c .before .before .target .ensures) _ _ _ (c .enum-told .given .1)
+child-returns t c = child-no _ _ _ _ (c .before .before .before .before .before .pre .1 .4) _ _ _ (c .enum-told .given .1)
 
 child-returns-2 : (t : ℕ) → child-lts.Need-returns-2 (child-calls t) (child-at t) child.Post
-child-returns-2 t c = child-lost _ _ _ _ (c .before .before .before .target .ensures) _ _ _ (c .before .t .given .1)
+child-returns-2 t c = child-lost _ _ _ _ (c .before .before .before .before .before .before .pre .1 .4) _ _ _ (c .before .t .given .1)
 
 child-returns-3 : (t : ℕ) → child-lts.Need-returns-3 (child-calls t) (child-at t) child.Post
-child-returns-3 t c = child-yes _ _ _ _ (c .before .before .before .before .before .before .target .ensures) (c .before .before .before .before .enum-told2 .given .1) (c .before .before .body .ensures)
+child-returns-3 t c =
+    let told = c .before .before .before .before in
+    child-yes _ _ _ _ (told .before .before .before .before .before .pre .1 .4) (told .enum-told2 .given .1) (c .before .before .body .ensures)
 
 gather-returns : (t : ℕ) → gather-lts.Need-returns (gather-calls t) (gather-at t) gather.Post
 gather-returns t c = gather-rules _ _ _ _ (c .before .before .before .byte .ensures .0) (c .before .before .byte2 .ensures .0) _ _ _ (c .before .if1 .taken) (c .rules .ensures)
@@ -181,20 +183,20 @@ walk-loop-again t c =
     (omega arith, omega arith, walk-skip (start .pre .1 .3) (turn .before .loop .inv .2) (turn .loop-test .taken) (c .before .before .span-in .ensures .0) (c .before .is-party .ensures) (not-true _ (c .if1 .taken)), omega (arith, turn .before .loop .inv .3, nest-rest _ _ _ (turn .loop-test .taken) (c .before .before .span-in .ensures .0)))
 
 walk-sub-child : (t : ℕ) → walk-lts.Need-sub-child (walk-calls t) (walk-at t) walk.Post walk-Inv-loop walk-μ-loop
-walk-sub-child t c = omega (arith, c .before .before .before .before .loop .inv .3, nest-kids _ _ _ (c .before .before .before .loop-test .taken) (c .before .before .span-in .ensures .0))
+walk-sub-child t c = omega (arith, c .before .before .before .before .before .loop .inv .3, nest-kids _ _ _ (c .before .before .before .before .loop-test .taken) (c .before .before .before .span-in .ensures .0))
 
 walk-child-requires : (t : ℕ) → walk-lts.Need-child-requires (walk-calls t) (walk-at t) walk.Post walk-Inv-loop walk-μ-loop
 walk-child-requires t c κs =
-    let turn = c .before .before .before .before in
+    let turn = c .before .before .before .before .before in
     let start = turn .before .before .before .before .before .before in
     let sofar = turn .before .loop .inv .2 in
-    (search needs, (search needs, search needs, omega (arith, sofar .room, sofar .kept, start .pre .1 .1, deep-is _ _ _ (turn .loop-test .taken) (c .before .before .before .span-in .ensures .0)), omega (arith, turn .before .loop .inv .3, nest-kids _ _ _ (turn .loop-test .taken) (c .before .before .before .span-in .ensures .0))))
+    (search needs, (search needs, search needs, omega (arith, sofar .room, sofar .kept, start .pre .1 .1, deep-is _ _ _ (turn .loop-test .taken) (c .before .before .before .before .span-in .ensures .0)), omega (arith, turn .before .loop .inv .3, nest-kids _ _ _ (turn .loop-test .taken) (c .before .before .before .before .span-in .ensures .0)), c .before .target .ensures))
 
 walk-settle-requires : (t : ℕ) → walk-lts.Need-settle-requires (walk-calls t) (walk-at t) walk.Post walk-Inv-loop walk-μ-loop
 walk-settle-requires t c κs =
     let stood = c .before .before .before .before .before in
     let decided = stood .before .before .before .before in
-    let spanned = decided .before .before .before .before in
+    let spanned = decided .before .before .before .before .before in
     let turn = spanned .before in
     let start = turn .before .before .before .before .before .before in
     let sofar = turn .before .loop .inv .2 in
@@ -205,25 +207,25 @@ walk-same-length t c =
     let settled = c .before .before .before .before .before in
     let stood = settled .before .before .before .before .before .before in
     let decided = stood .before .before .before .before in
-    settled .settle .kept .0 ∙ decided .child .kept .1 .1 .1 .1 .1 .0 ∙ decided .before .before .before .before .before .before .loop .inv .2 .kept
+    settled .settle .kept .0 ∙ decided .child .kept .1 .1 .1 .1 .1 .0 ∙ decided .before .before .before .before .before .before .before .loop .inv .2 .kept
 
 walk-returns : (t : ℕ) → walk-lts.Need-returns (walk-calls t) (walk-at t) walk.Post walk-Inv-loop walk-μ-loop
 walk-returns t c =
     let settled = c .before .before .before .before .before in
     let stood = settled .before .before .before .before .before .before in
     let decided = stood .before .before .before .before in
-    let spanned = decided .before .before .before .before in
+    let spanned = decided .before .before .before .before .before in
     let turn = spanned .before in
     let start = turn .before .before .before .before .before .before in
     let sofar = turn .before .loop .inv .2 in
-    walk-stop (start .pre .1 .3) sofar (turn .loop-test .taken) (spanned .span-in .ensures .0) (decided .before .before .before .is-party .ensures) (not-false _ (decided .before .before .if1 .left)) (decided .child .ensures) (decided .child .kept .1 .1 .1 .1 .1 .0) (stood .before .decision-in .ensures) (stood .outcome .ensures) (settled .before .before .before .before .before .take-in .ensures) (settled .before .before .before .before .outcome2 .ensures) (settled .before .before .stay .ensures) (settled .before .stay2 .ensures) (c .before .before .settles .ensures) (settled .settle .ensures) (omega (arith, start .pre .1 .1)) (omega (arith, sofar .room, sofar .kept, start .pre .1 .1)) (c .before .if2 .taken) (c .verdict .ensures)
+    walk-stop (start .pre .1 .3) sofar (turn .loop-test .taken) (spanned .span-in .ensures .0) (decided .before .before .before .before .is-party .ensures) (not-false _ (decided .before .before .before .if1 .left)) (decided .child .ensures) (decided .child .kept .1 .1 .1 .1 .1 .0) (stood .before .decision-in .ensures) (stood .outcome .ensures) (settled .before .before .before .before .before .take-in .ensures) (settled .before .before .before .before .outcome2 .ensures) (settled .before .before .stay .ensures) (settled .before .stay2 .ensures) (c .before .before .settles .ensures) (settled .settle .ensures) (omega (arith, start .pre .1 .1)) (omega (arith, sofar .room, sofar .kept, start .pre .1 .1)) (c .before .if2 .taken) (c .verdict .ensures)
 
 walk-sub-left-2 : (t : ℕ) → walk-lts.Need-sub-left-2 (walk-calls t) (walk-at t) walk.Post walk-Inv-loop walk-μ-loop
 walk-sub-left-2 t c =
     let settled = c .before .before .before .before in
     let stood = settled .before .before .before .before .before .before in
     let decided = stood .before .before .before .before in
-    let spanned = decided .before .before .before .before in
+    let spanned = decided .before .before .before .before .before in
     omega (arith, spanned .span-in .ensures .1 .1)
 
 walk-loop-less-2 : (t : ℕ) → walk-lts.Need-loop-less-2 (walk-calls t) (walk-at t) walk.Post walk-Inv-loop walk-μ-loop
@@ -231,7 +233,7 @@ walk-loop-less-2 t c =
     let settled = c .before .before .before .before in
     let stood = settled .before .before .before .before .before .before in
     let decided = stood .before .before .before .before in
-    let spanned = decided .before .before .before .before in
+    let spanned = decided .before .before .before .before .before in
     omega (arith, spanned .span-in .ensures .1 .0, spanned .span-in .ensures .1 .1)
 
 walk-loop-again-2 : (t : ℕ) → walk-lts.Need-loop-again-2 (walk-calls t) (walk-at t) walk.Post walk-Inv-loop walk-μ-loop
@@ -239,13 +241,13 @@ walk-loop-again-2 t c =
     let settled = c .before .before .before .before in
     let stood = settled .before .before .before .before .before .before in
     let decided = stood .before .before .before .before in
-    let spanned = decided .before .before .before .before in
+    let spanned = decided .before .before .before .before .before in
     let turn = spanned .before in
     let start = turn .before .before .before .before .before .before in
     let sofar = turn .before .loop .inv .2 in (
       omega (arith, turn .before .loop .inv .0, spanned .span-in .ensures .1 .1),
       omega (arith, turn .before .loop .inv .1),
-      walk-turn (start .pre .1 .3) sofar (turn .loop-test .taken) (spanned .span-in .ensures .0) (decided .before .before .before .is-party .ensures) (not-false _ (decided .before .before .if1 .left)) (decided .child .ensures) (decided .child .kept .1 .1 .1 .1 .1 .0) (stood .before .decision-in .ensures) (stood .outcome .ensures) (settled .before .before .before .before .before .take-in .ensures) (settled .before .before .before .before .outcome2 .ensures) (settled .before .before .stay .ensures) (settled .before .stay2 .ensures) (c .before .settles .ensures) (settled .settle .ensures) (omega (arith, start .pre .1 .1)) (omega (arith, sofar .room, sofar .kept, start .pre .1 .1)) (settled .settle .kept .0) (c .if2 .left),
+      walk-turn (start .pre .1 .3) sofar (turn .loop-test .taken) (spanned .span-in .ensures .0) (decided .before .before .before .before .is-party .ensures) (not-false _ (decided .before .before .before .if1 .left)) (decided .child .ensures) (decided .child .kept .1 .1 .1 .1 .1 .0) (stood .before .decision-in .ensures) (stood .outcome .ensures) (settled .before .before .before .before .before .take-in .ensures) (settled .before .before .before .before .outcome2 .ensures) (settled .before .before .stay .ensures) (settled .before .stay2 .ensures) (c .before .settles .ensures) (settled .settle .ensures) (omega (arith, start .pre .1 .1)) (omega (arith, sofar .room, sofar .kept, start .pre .1 .1)) (settled .settle .kept .0) (c .if2 .left),
       omega (arith, turn .before .loop .inv .3, nest-rest _ _ _ (turn .loop-test .taken) (spanned .span-in .ensures .0)),
     )
 
@@ -266,13 +268,9 @@ pub +body+child+gather+walk-spec : {M : Type 1} → statement M
     (body-own-requires t)
     (λ c. search needs)
     (body-returns t))
-    (λ t. child-lts.spec
-    (target-reads.Asked, target-reads.Learnt, body-below t, body.Post)
+    (λ t. child-lts.spec (child-calls t)
     (child-at t)
     child.Post
-    (λ c. search needs)
-    (λ c. search needs)
-    (λ c κs. search needs)
     (λ c. search needs)
     (λ c. search needs)
     (λ c. search needs)
@@ -323,6 +321,9 @@ pub +body+child+gather+walk-spec : {M : Type 1} → statement M
     (λ c. search needs)
     (walk-loop-again t)
     (λ c. search needs)
+    (λ c. search needs)
+    (λ c. search needs)
+    (λ c κs. search needs)
     (walk-sub-child t)
     (walk-child-requires t)
     (λ c κs. search needs)
