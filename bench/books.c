@@ -23,19 +23,26 @@ static unsigned digit(const char *at)
     return value < 16 ? value : value - 6;
 }
 
+static uint8_t byte(const char *at)
+{
+    unsigned high = digit(at);
+    return (uint8_t)(high << 4 | digit(at + 1));
+}
+
 size_t bytes_of_text(const char *text, uint8_t *bytes, size_t most)
 {
-    size_t len = 0;
-    while (*text) {
-        if (len == most)
+    size_t len = 0, said = strcspn(text, "\n") == SHORT_LINE - 1 ? ISSUER : RECORD; /* bytes that a line says */
+    for (; *text; len += RECORD) {
+        if (len + RECORD > most)
             stop("too long a text", text);
-        bytes[len++] = (uint8_t)(digit(text) << 4 | digit(text + 1));
-        text += 2;
-        if (len % RECORD == 0 && *text++ != '\n')
-            stop("a line without its end before", text);
+        memset(bytes + len, 0, RECORD);
+        for (size_t i = 0; i < said; i++)
+            bytes[len + i] = byte(text + 2 * i);
+        text += 2 * said;
+        if (*text != '\n')
+            stop("a line unlike line 1, at", text);
+        text++;
     }
-    if (len % RECORD != 0)
-        stop("a line is cut short", "");
     return len;
 }
 
@@ -94,6 +101,7 @@ static void put(struct pen *pen, unsigned kind, unsigned choice, size_t span, un
     r[5] = (uint8_t)type;
     put_big(r + 6, 2, identifier);
     put_big(r + 8, 8, value);
+    put_big(r + ISSUER, RECORD - ISSUER, 0);
     pen->at += RECORD;
 }
 
@@ -105,7 +113,21 @@ static void put_entry(struct pen *pen, unsigned category, unsigned type, unsigne
     put_big(e + 2, 2, identifier);
     put_big(e + 4, 4, 0);
     put_big(e + 8, 8, value);
+    put_big(e + ISSUER, RECORD - ISSUER, 0);
     pen->at += RECORD;
+}
+
+/* A record or entry is put with issuer 0; it has this one then. */
+static void put_issuer(uint8_t *at, unsigned issuer)
+{
+    put_big(at + ISSUER, 2, issuer);
+}
+
+/* A match, a comparison or an attribute. */
+static bool may_have_issuer(const uint8_t *record)
+{
+    unsigned kind = record[0], choice = record[1];
+    return kind == 6 || (kind == 7 && choice >= 11 && choice <= 15) || (kind == 10 && choice == 2);
 }
 
 /* ---- Books that grow --------------------------------------------------------------------------------------- */
@@ -177,6 +199,27 @@ size_t growth_request(uint8_t *request, size_t entries)
         put_entry(&pen, 4, 1, 1, 40000);                        /* time */
     }
     return (size_t)(pen.at - request);
+}
+
+/* ---- One maker's book and request -------------------------------------------------------------------------- */
+
+enum { MAKER = 5 };
+
+size_t issuers_book(uint8_t *book, size_t records)
+{
+    size_t len = growth_book(book, records);
+    for (uint8_t *record = book; record != book + len; record += RECORD)
+        if (may_have_issuer(record))
+            put_issuer(record, MAKER);
+    return len;
+}
+
+size_t issuers_request(uint8_t *request, size_t entries)
+{
+    size_t len = growth_request(request, entries);
+    for (uint8_t *entry = request; entry != request + len; entry += RECORD)
+        put_issuer(entry, MAKER);
+    return len;
 }
 
 /* ---- Deep books -------------------------------------------------------------------------------------------- */
@@ -515,4 +558,24 @@ size_t random_request(uint8_t *request, size_t entries, struct dice *dice)
         key = (key + 7) % KEYS;
     }
     return (size_t)(pen.at - request);
+}
+
+/* Nobody, or one of two whose bytes are the same in another order. */
+static unsigned random_issuer(struct dice *dice)
+{
+    static const unsigned issuers[3] = { 0, 0x0001, 0x0100 };
+    return issuers[roll(dice, 3)];
+}
+
+void issuers_in_book(uint8_t *book, size_t book_len, struct dice *dice)
+{
+    for (uint8_t *record = book; record != book + book_len; record += RECORD)
+        if (may_have_issuer(record) && roll(dice, 2) == 0)
+            put_issuer(record, random_issuer(dice));
+}
+
+void issuers_in_request(uint8_t *request, size_t request_len, struct dice *dice)
+{
+    for (uint8_t *entry = request; entry != request + request_len; entry += RECORD)
+        put_issuer(entry, random_issuer(dice));
 }

@@ -2,13 +2,20 @@
 #ifndef BOOKS_H
 #define BOOKS_H
 
+#include <bachumoi.h>
 #include <stddef.h>
 #include <stdint.h>
 
-enum { RECORD = 16, MOST_BOOK = 1000 * RECORD, MOST_REQUEST = 64 * RECORD, MOST_OUT = 2 * 1000 };
+enum {
+    RECORD = BACHUMOI_RECORD, MOST_BOOK = BACHUMOI_MOST_RECORDS * RECORD, MOST_REQUEST = BACHUMOI_MOST_ENTRIES * RECORD,
+    MOST_OUT = 2 * BACHUMOI_MOST_RECORDS
+};
 
-/* Reads lines of 32 hexadecimal digits and returns how many bytes they give. Ends the program at a wrong line, or if
- * they give more than most. */
+/* Where the issuer of a record or entry stands; a short line of text ends before it, and has so many digits with LF. */
+enum { ISSUER = BACHUMOI_ISSUER, SHORT_LINE = 2 * ISSUER + 1 };
+
+/* Reads lines of 40 hexadecimal digits, or of 32 if line 1 has as many, and returns how many bytes the records have.
+ * Ends the program at a wrong line, or if there are more bytes than most. */
 size_t bytes_of_text(const char *text, uint8_t *bytes, size_t most);
 size_t bytes_of_file(const char *path, uint8_t *bytes, size_t most);
 
@@ -22,6 +29,11 @@ size_t growth_request(uint8_t *request, size_t entries);
 /* The same of policies whose Deny rule has a sum of two attributes for its condition, in doubles and in integers by
  * turns: every policy applies to growth_request, Indeterminate for one entry and Deny for 8 or more. */
 size_t sums_book(uint8_t *book, size_t records);
+
+/* The growing book, whose tests all ask for the values of one maker, and the request, all vouched for by that maker.
+ * They are decided as the other two are, with one comparison more for each entry that a test takes. */
+size_t issuers_book(uint8_t *book, size_t records);
+size_t issuers_request(uint8_t *request, size_t entries);
 
 /* A book of nesting depth 16: sets of one algorithm, one in the other, and in the innermost what fills the rest. */
 enum filling { SETS, CONDITIONS, OPERATORS, POLICY_TARGET, RULE_TARGET, FILLINGS };
@@ -47,5 +59,9 @@ unsigned roll(struct dice *dice, unsigned below);
  * values, so that they often meet. Both return the length in bytes. */
 size_t random_book(uint8_t *book, size_t records, struct dice *dice);
 size_t random_request(uint8_t *request, size_t entries, struct dice *dice);
+
+/* Gives some records of a book, and the entries of a request, issuers by chance, of whom there are few too. */
+void issuers_in_book(uint8_t *book, size_t book_len, struct dice *dice);
+void issuers_in_request(uint8_t *request, size_t request_len, struct dice *dice);
 
 #endif

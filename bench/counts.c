@@ -5,6 +5,7 @@
 #include "machine.h"
 #include "plain.h"
 
+#include <stdbool.h>
 #include <stdio.h>
 #include <string.h>
 
@@ -97,13 +98,13 @@ static void rig(void)
     end_counts("rig");
 }
 
-static void grown(const char *what, size_t book_len)
+static void grown(const char *what, size_t book_len, size_t (*ask)(uint8_t *request, size_t entries))
 {
     char name[32];
     begin_counts();
     one_book(book_len);
     for (size_t entries = 1; entries <= 64; entries *= 8)
-        one_request(book_len, growth_request(request, entries));
+        one_request(book_len, ask(request, entries));
     snprintf(name, sizeof name, "%s %zu", what, book_len / RECORD);
     end_counts(name);
 }
@@ -111,19 +112,37 @@ static void grown(const char *what, size_t book_len)
 static void growth(void)
 {
     for (size_t records = 10; records <= 1000; records *= 10)
-        grown("growth", growth_book(book, records));
-    grown("sums", sums_book(book, 1000));
+        grown("growth", growth_book(book, records), growth_request);
+    grown("sums", sums_book(book, 1000), growth_request);
+    grown("issuers", issuers_book(book, 1000), issuers_request);
 }
 
-static void generated(const char *name, size_t most)
+/* A book and a request by chance, with issuers or with none. */
+static size_t make_book(size_t most, bool with_issuers)
+{
+    size_t book_len = random_book(book, 1 + roll(&dice, (unsigned)most), &dice);
+    if (with_issuers)
+        issuers_in_book(book, book_len, &dice);
+    return book_len;
+}
+
+static size_t make_request(size_t most, bool with_issuers)
+{
+    size_t request_len = random_request(request, most, &dice);
+    if (with_issuers)
+        issuers_in_request(request, request_len, &dice);
+    return request_len;
+}
+
+static void generated(const char *name, size_t most, bool with_issuers)
 {
     static const size_t entries[4] = { 1, 8, 24, 64 };
     begin_counts();
     for (unsigned i = 0; i < BOOKS; i++) {
-        size_t book_len = random_book(book, 1 + roll(&dice, (unsigned)most), &dice);
+        size_t book_len = make_book(most, with_issuers);
         one_book(book_len);
         for (unsigned k = 0; k < REQUESTS; k++)
-            one_request(book_len, random_request(request, entries[k % 4], &dice));
+            one_request(book_len, make_request(entries[k % 4], with_issuers));
     }
     end_counts(name);
 }
@@ -156,21 +175,26 @@ static void damage(uint64_t *numbers, size_t count)
     }
 }
 
+/* What an entry is, by its bits 0-3. */
+enum { A_MATCH = 1, A_RULE = 5, A_COMPARISON = 13 };
+
 /* Spoils some entries: another function, a literal that is no finite double, a way that leads just to the end or
- * beyond. */
+ * beyond, a bit of the number where an issuer stands or would. */
 static void damage_entries(void)
 {
     for (unsigned left = roll(&dice, 6); left > 0; left--) {
         size_t place = roll(&dice, (unsigned)programme.length), behind = programme.length - place - 1;
         uint64_t *entry = &programme.entries[place];
-        unsigned is = *entry & 15, further = is == 1 ? 2 : is == 2 ? 1 : 0, how = roll(&dice, 3);
-        unsigned way = is == 1 ? 43 : is == 2 ? 40 : is == 5 ? 5 : 4; /* the bit where it begins */
+        unsigned is = *entry & 15, further = is == A_MATCH || is == A_COMPARISON ? 2 : 0, how = roll(&dice, 4);
+        unsigned way = is == A_MATCH ? 43 : is == A_COMPARISON ? 40 : is == A_RULE ? 5 : 4; /* where it begins */
         if (how == 0)
             *entry = (*entry & ~(uint64_t)0x70) | (uint64_t)roll(&dice, 8) << 4;
         else if (how == 1 && behind >= 1)
             entry[1] = 0x7FF0000000000000 | (uint64_t)roll(&dice, 2) << 63;
         else if (how == 2 && behind >= further)
             *entry = (*entry & (((uint64_t)1 << way) - 1)) | (behind - further + roll(&dice, 2)) << way;
+        else if (how == 3 && behind >= further)
+            entry[further] ^= (uint64_t)1 << roll(&dice, 64);
     }
 }
 
@@ -212,8 +236,8 @@ static void damaged(void)
     for (unsigned i = 0; proved_machine && i < DAMAGED; i++) {
         struct state state;
         uint16_t out[BACHUMOI_PLACES];
-        size_t request_len = random_request(request, 24, &dice);
-        translate(&plain_machine, book, random_book(book, 1 + roll(&dice, 60), &dice), &programme);
+        size_t request_len = make_request(24, true);
+        translate(&plain_machine, book, make_book(60, true), &programme);
         fresh(&plain_machine, &state);
         tick(&plain_machine, &programme, request, request_len, &state, roll(&dice, 2) == 0 ? 0 : roll(&dice, 20), out);
         if (roll(&dice, 4) == 0)
@@ -234,8 +258,10 @@ int main(void)
 {
     rig();
     growth();
-    generated("generated, to 30", 30);
-    generated("generated, to 1000", 1000);
+    generated("generated, to 30", 30, false);
+    generated("generated, to 1000", 1000, false);
+    generated("issuers, to 30", 30, true);
+    generated("issuers, to 1000", 1000, true);
     damaged();
     return 0;
 }

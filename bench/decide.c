@@ -73,27 +73,25 @@ static void rig(struct input in, uint8_t *book, uint8_t *request)
         fclose(answers);
 }
 
-static void growth(struct input in, uint8_t *book, uint8_t *request)
+/* A book with requests of 1, 8 and 64 entries. */
+static void grown(struct input in, const char *name, size_t book_len, size_t (*ask)(uint8_t *request, size_t entries),
+                  uint8_t *request)
 {
-    in.name = "growth";
-    for (size_t records = 10; records <= 1000; records *= 10)
-        for (size_t entries = 1; entries <= 64; entries *= 8) {
-            in.book_len = growth_book(book, records);
-            in.out_len = need(book, in.book_len);
-            in.request_len = growth_request(request, entries);
-            one(&in);
-        }
-}
-
-static void sums(struct input in, uint8_t *book, uint8_t *request)
-{
-    in.name = "sums";
-    in.book_len = sums_book(book, 1000);
-    in.out_len = need(book, in.book_len);
+    in.name = name;
+    in.book_len = book_len;
+    in.out_len = need(in.book, book_len);
     for (size_t entries = 1; entries <= 64; entries *= 8) {
-        in.request_len = growth_request(request, entries);
+        in.request_len = ask(request, entries);
         one(&in);
     }
+}
+
+static void growth(struct input in, uint8_t *book, uint8_t *request)
+{
+    for (size_t records = 10; records <= 1000; records *= 10)
+        grown(in, "growth", growth_book(book, records), growth_request, request);
+    grown(in, "sums", sums_book(book, 1000), growth_request, request);
+    grown(in, "issuers", issuers_book(book, 1000), issuers_request, request);
 }
 
 /* The deepest stack of a side over every stack_book; in is left with the length of the book that takes it. */
@@ -130,7 +128,6 @@ int main(void)
     struct input in = { .book = book, .request = request, .out = out, .out_len = sizeof out };
     rig(in, book, request);
     growth(in, book, request);
-    sums(in, book, request);
     stack(in, book, request);
     return 0;
 }

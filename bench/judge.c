@@ -53,5 +53,6 @@ int main(void)
     for (size_t records = 10; records <= 1000; records *= 10)
         one("growth", book, growth_book(book, records));
     one("sums", book, sums_book(book, 1000));
+    one("issuers", book, issuers_book(book, 1000));
     return 0;
 }

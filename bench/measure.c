@@ -1,6 +1,7 @@
 #define _GNU_SOURCE
 #include "measure.h"
 
+#include <bachumoi.h>
 #include <stdio.h>
 #include <stdlib.h>
 #include <string.h>
@@ -100,8 +101,8 @@ static void count(size_t of)
 static void head(const char *what, const struct input *input, const char *unit, double plain)
 {
     printf("%s\t%s\t", what, input->name);
-    count(input->book_len / 16);
-    count(input->request_len / 16);
+    count(input->book_len / BACHUMOI_RECORD);
+    count(input->request_len / BACHUMOI_RECORD);
     printf("%s\t", unit);
     amount(plain);
 }

@@ -1,5 +1,6 @@
 /* What the plain C of the benchmark shares: the papers' numbers for kinds and choices, big-endian numbers, refusals,
- * how two values compare, what an operator gives of them, and the one value of a bag. */
+ * which entries a record asks for, how two values compare, what an operator gives of them, and the one value of a
+ * bag. */
 #ifndef PLAIN_BYTES_H
 #define PLAIN_BYTES_H
 
@@ -9,7 +10,8 @@
 #include <stdint.h>
 #include <string.h>
 
-enum { SIZE = 16, MOST_RECORDS = 1000, MOST_ENTRIES = 64, MOST_DEPTH = 16 };
+enum { SIZE = 20, MOST_RECORDS = 1000, MOST_ENTRIES = 64, MOST_DEPTH = 16 };
+enum { ISSUER = 16 }; /* where it stands, in a record and in an entry */
 enum { SET = 1, POLICY, RULE, SECTION, CONJUNCTION, MATCH, CONDITION, OBLIGATION, VALUE = 10 };
 enum { DENY_OVERRIDES = 1, PERMIT_OVERRIDES, FIRST_APPLICABLE, ONLY_ONE_APPLICABLE };
 enum { AND = 1, OR, NOT, COMPARISON = 10, COMPARISON_OF_VALUES = 20 };
@@ -50,12 +52,18 @@ static inline const uint8_t *after(const uint8_t *record)
     return record + SIZE * (size_t)big2(record + 2);
 }
 
-/* The key of an entry is its first four bytes; the key asked for is lent as the number that they make in memory. */
-static inline bool has_key(const uint8_t *entry, uint32_t key)
+/* What a match, comparison or attribute asks a request for: the first four bytes of an entry, as the number that they
+ * make in memory, and an issuer, 0 for anyone. */
+struct designator {
+    uint32_t key;
+    unsigned issuer;
+};
+
+static inline bool takes(struct designator wanted, const uint8_t *entry)
 {
-    uint32_t its;
-    memcpy(&its, entry, sizeof its);
-    return its == key;
+    uint32_t key;
+    memcpy(&key, entry, sizeof key);
+    return key == wanted.key && (wanted.issuer == 0 || wanted.issuer == big2(entry + ISSUER));
 }
 
 static inline bool is_finite(uint64_t bits)
@@ -133,12 +141,12 @@ static inline struct value known(uint64_t bytes)
     return (struct value){ NO_STATUS, bytes };
 }
 
-/* The value of a key's bag in a request: lost unless it has exactly one. */
-static inline struct value one_and_only(const uint8_t *request, const uint8_t *request_end, uint32_t key)
+/* The value of a bag in a request: lost unless it has exactly one. */
+static inline struct value one_and_only(const uint8_t *request, const uint8_t *request_end, struct designator wanted)
 {
     const uint8_t *only = NULL;
     for (const uint8_t *entry = request; entry != request_end; entry += SIZE)
-        if (has_key(entry, key)) {
+        if (takes(wanted, entry)) {
             if (only)
                 return lost(PROCESSING_ERROR);
             only = entry;

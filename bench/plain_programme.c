@@ -7,9 +7,12 @@ enum { FRAMES = 17, LEVELS = 15, NUMBERS = 1 + FRAMES + LEVELS, PLACES = 1000, M
 
 /* What bits 0-3 of an entry say. */
 enum entry {
-    E_BEGIN, E_MATCH, E_COMPARE, E_OPEN, E_CLOSE, E_RULE, E_ENTER, E_APPLIES, E_CONCLUDE, E_OBLIGE, E_LEAVE, E_FINISH,
-    E_SUM
+    E_BEGIN, E_MATCH, E_OPEN = 3, E_CLOSE, E_RULE, E_ENTER, E_APPLIES, E_CONCLUDE, E_OBLIGE, E_LEAVE, E_FINISH, E_SUM,
+    E_COMPARE
 };
+
+/* A match and a comparison have three entries: what it asks, the literal, and the issuer, in a match with two ways. */
+enum { OF_TEST = 3, MORE_OF_TEST = OF_TEST - 1 };
 
 /* What bits 4-5 of a sum's entry say: which piece of a comparison of two values it is. */
 enum piece { A_LITERAL, AN_ATTRIBUTE, AN_OPERATOR, THE_COMPARISON };
@@ -20,8 +23,12 @@ enum algorithm { FIRST, RULES_DENY, RULES_PERMIT, POLICIES_DENY, POLICIES_PERMIT
 /* Where the way of an entry begins. */
 enum { WAY = 4, WAY_OF_RULE = 5, WAY_OF_COMPARE = 40, WAY_OF_MATCH = 43, WAY_OUT = 13 };
 
-/* Where the cut of the first entry begins; where, in a sum's entry, what the piece is of. */
-enum { CUT = 7, PIECE = 4, OF_PIECE = 6 };
+/* How long the ways in a match's third number are, and where its issuer begins. */
+enum { WAY_BITS = 13, ISSUER_OF_MATCH = 26, ISSUER_BITS = 16 };
+
+/* Where the cut of the first entry begins; where, in a sum's entry, what the piece is of, and behind an attribute's key
+ * its issuer. */
+enum { CUT = 7, PIECE = 4, OF_PIECE = 6, ISSUER_OF_PIECE = 32 };
 
 /* ---- Translating an accepted book -------------------------------------------------------------------------- */
 
@@ -57,7 +64,7 @@ static void lead_here(struct pen *pen, size_t chain)
     while (chain != 0) {
         uint64_t entry = pen->programme[chain];
         unsigned way = way_of(entry);
-        size_t behind = chain + ((entry & 15) == E_COMPARE ? 2 : 1);
+        size_t behind = chain + ((entry & 15) == E_COMPARE ? OF_TEST : 1);
         pen->programme[chain] = (entry & (((uint64_t)1 << way) - 1)) | (uint64_t)(pen->at - behind) << way;
         chain = (size_t)(entry >> way);
     }
@@ -80,21 +87,21 @@ static void put_conjunction(struct pen *pen, const uint8_t *record, bool last_of
     for (const uint8_t *match = record + SIZE; match != end; match += SIZE) {
         uint64_t left = (uint64_t)(end - match) / SIZE - 1;
         uint64_t last = left == 0, flags = last | (uint64_t)last_of_section << 1 | (uint64_t)of_last_section << 2;
-        put(pen, E_MATCH | test_of(match, match[1], 7) << 4 | flags << 8 | 3 * left << WAY_OF_MATCH);
+        put(pen, E_MATCH | test_of(match, match[1], 7) << 4 | flags << 8 | OF_TEST * left << WAY_OF_MATCH);
         put(pen, big8(match + 8));
-        put(pen, 0);
+        put(pen, (uint64_t)big2(match + ISSUER) << ISSUER_OF_MATCH);
     }
 }
 
-/* The matches of a section stand together, three entries each. */
+/* The matches of a section stand together. */
 static void put_section(struct pen *pen, const uint8_t *record, bool last_of_target)
 {
     size_t first = pen->at;
     const uint8_t *end = after(record);
     for (const uint8_t *part = record + SIZE; part != end; part = after(part))
         put_conjunction(pen, part, after(part) == end, last_of_target);
-    for (size_t match = first; match != pen->at; match += 3)
-        pen->programme[match + 2] = pen->at - (match + 3);
+    for (size_t match = first; match != pen->at; match += OF_TEST)
+        pen->programme[match + 2] |= pen->at - (match + OF_TEST);
 }
 
 /* The sections that children begin with; returns the first child behind them. */
@@ -111,8 +118,8 @@ static const uint8_t *put_target(struct pen *pen, const uint8_t *child, const ui
 /* The ways out of the target from first to behind lead to the entry that is put next. */
 static void lead_out(struct pen *pen, size_t first, size_t behind)
 {
-    for (size_t match = first; match != behind; match += 3)
-        pen->programme[match + 2] |= (uint64_t)(pen->at - (match + 3)) << WAY_OUT;
+    for (size_t match = first; match != behind; match += OF_TEST)
+        pen->programme[match + 2] |= (uint64_t)(pen->at - (match + OF_TEST)) << WAY_OUT;
 }
 
 static void put_piece(struct pen *pen, enum piece piece, uint64_t of)
@@ -130,7 +137,7 @@ static void put_value(struct pen *pen, const uint8_t *record)
         put(pen, big8(record + 8));
         break;
     case ATTRIBUTE:
-        put_piece(pen, AN_ATTRIBUTE, key_of(record));
+        put_piece(pen, AN_ATTRIBUTE, key_of(record) | (uint64_t)big2(record + ISSUER) << ISSUER_OF_PIECE);
         break;
     default:
         put_value(pen, first);
@@ -158,6 +165,7 @@ static void put_condition(struct pen *pen, const uint8_t *record, size_t *chain)
     if (record[1] > COMPARISON) {
         put_in_chain(pen, E_COMPARE | test_of(record, record[1] - COMPARISON, 4) << 4, chain);
         put(pen, big8(record + 8));
+        put(pen, big2(record + ISSUER));
         return;
     }
     size_t parts = 0;
@@ -379,7 +387,7 @@ static inline enum status status_of(unsigned answer)
 /* What a match or comparison asks. */
 struct test {
     unsigned function, type;
-    uint32_t key;
+    struct designator wanted;
     uint64_t literal;
 };
 
@@ -392,21 +400,21 @@ static inline unsigned function_by(unsigned number, unsigned type)
     return function;
 }
 
-/* The key that an entry has, as has_key wants it. */
-static inline uint32_t key_by(uint32_t key)
+/* What is asked for by the key and the issuer that a programme has. */
+static inline struct designator designator_by(uint32_t key, unsigned issuer)
 {
     uint8_t bytes[4] = { (uint8_t)(key >> 24), (uint8_t)(key >> 16), (uint8_t)(key >> 8), (uint8_t)key };
-    uint32_t number;
-    memcpy(&number, bytes, sizeof number);
-    return number;
+    struct designator wanted = { .issuer = issuer };
+    memcpy(&wanted.key, bytes, sizeof wanted.key);
+    return wanted;
 }
 
 /* A double that is not finite is in no translated programme. */
-static inline struct test test_by(unsigned function, uint32_t key, uint64_t literal)
+static inline struct test test_by(unsigned function, uint32_t key, unsigned issuer, uint64_t literal)
 {
     unsigned type = key >> 16 & 255;
     bool never = type == DOUBLE && !is_finite(literal);
-    return (struct test){ never ? NEVER : function_by(function, type), type, key_by(key), literal };
+    return (struct test){ never ? NEVER : function_by(function, type), type, designator_by(key, issuer), literal };
 }
 
 static inline bool passes(const struct test *test, uint64_t value)
@@ -418,7 +426,7 @@ static inline enum truth match_of(const struct run *run, struct test test, bool 
 {
     bool found = false;
     for (const uint8_t *entry = run->request; entry != run->request_end; entry += SIZE)
-        if (has_key(entry, test.key)) {
+        if (takes(test.wanted, entry)) {
             if (passes(&test, big8(entry + 8)))
                 return TRUE;
             found = true;
@@ -428,22 +436,25 @@ static inline enum truth match_of(const struct run *run, struct test test, bool 
 
 static inline enum truth comparison_of(const struct run *run, struct test test)
 {
-    struct value its = one_and_only(run->request, run->request_end, test.key);
+    struct value its = one_and_only(run->request, run->request_end, test.wanted);
     return its.lost ? unknown(its.lost) : passes(&test, its.bytes) ? TRUE : FALSE;
 }
 
 static inline bool step_match(struct run *run, uint64_t entry, size_t left)
 {
     const uint64_t *more = run->programme + run->at + 1;
-    if (left < 2)
+    if (left < MORE_OF_TEST)
         return false;
-    uint64_t to_conjunction = entry >> WAY_OF_MATCH, to_section = more[1] & 8191, out = more[1] >> WAY_OUT;
-    if (to_conjunction > left - 2 || to_section > left - 2 || out > left - 2)
+    left -= MORE_OF_TEST;
+    uint64_t to_conjunction = entry >> WAY_OF_MATCH;
+    unsigned to_section = field(more[1], 0, WAY_BITS), out = field(more[1], WAY_OUT, WAY_BITS);
+    if (to_conjunction > left || to_section > left || out > left)
         return false;
-    struct test test = test_by(field(entry, 4, 3), (uint32_t)(entry >> 11), more[0]);
+    struct test test = test_by(field(entry, 4, 3), (uint32_t)(entry >> 11),
+                               field(more[1], ISSUER_OF_MATCH, ISSUER_BITS), more[0]);
     enum truth truth = and_of(run->conjunction, match_of(run, test, field(entry, 7, 1)));
 
-    run->at += 2;
+    run->at += MORE_OF_TEST;
     if (truth != FALSE && !field(entry, 8, 1)) {
         run->conjunction = truth;
         run->at += 1;
@@ -492,14 +503,16 @@ static inline bool tell(struct run *run, unsigned height, enum truth part)
 
 static inline bool step_compare(struct run *run, uint64_t entry, size_t left)
 {
+    const uint64_t *more = run->programme + run->at + 1;
     uint64_t way = entry >> WAY_OF_COMPARE;
-    if (left < 1 || way > left - 1)
+    if (left < MORE_OF_TEST || way > left - MORE_OF_TEST)
         return false;
-    struct test test = test_by(field(entry, 4, 3), (uint32_t)(entry >> 8), run->programme[run->at + 1]);
+    struct test test =
+        test_by(field(entry, 4, 3), (uint32_t)(entry >> 8), field(more[1], 0, ISSUER_BITS), more[0]);
     enum truth truth = comparison_of(run, test);
     if (run->nest == 0)
-        return go_on(run, 1, register_of(truth));
-    return go_on(run, tell(run, run->nest, truth) ? 1 + way : 1, run->reg);
+        return go_on(run, MORE_OF_TEST, register_of(truth));
+    return go_on(run, MORE_OF_TEST + (tell(run, run->nest, truth) ? way : 0), run->reg);
 }
 
 /* Puts a level on top, where there is room. */
@@ -566,9 +579,10 @@ static inline bool words_pass(uint64_t of, uint64_t a, uint64_t b)
     return holds(function_by(of & 7, (unsigned)type), (unsigned)type, a, b);
 }
 
-static inline void step_attribute(struct run *run, uint32_t key)
+static inline void step_attribute(struct run *run, uint64_t of)
 {
-    push_level(run, word_of(run, one_and_only(run->request, run->request_end, key_by(key))));
+    struct designator wanted = designator_by((uint32_t)of, field(of, ISSUER_OF_PIECE, ISSUER_BITS));
+    push_level(run, word_of(run, one_and_only(run->request, run->request_end, wanted)));
 }
 
 static inline bool step_sum(struct run *run, uint64_t of, size_t left)
@@ -583,7 +597,7 @@ static inline bool step_sum(struct run *run, uint64_t of, size_t left)
         push_level(run, word_of(run, known(run->programme[run->at])));
         break;
     case AN_ATTRIBUTE:
-        step_attribute(run, (uint32_t)of);
+        step_attribute(run, of);
         break;
     case AN_OPERATOR:
         replace_levels(run, word_of(run, operate(operator_by(of), known(first), known(second))));

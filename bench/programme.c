@@ -179,6 +179,7 @@ int main(void)
     for (size_t records = 10; records <= 1000; records *= 10)
         translating("growth", growth_book(book, records));
     translating("sums", sums_book(book, 1000));
+    translating("issuers", issuers_book(book, 1000));
     for (size_t entries = 1; entries <= 64; entries *= 8)
         running("rig", bytes_of_file("examples/rig/BOOK.HEX", book, sizeof book), rig_request(entries));
     for (size_t records = 10; records <= 1000; records *= 10)
@@ -186,6 +187,8 @@ int main(void)
             running("growth", growth_book(book, records), growth_request(request, entries));
     for (size_t entries = 1; entries <= 64; entries *= 8)
         running("sums", sums_book(book, 1000), growth_request(request, entries));
+    for (size_t entries = 1; entries <= 64; entries *= 8)
+        running("issuers", issuers_book(book, 1000), issuers_request(request, entries));
     stack("translate", plain_translation, proved_translation);
     stack("tick", plain_whole_run, proved_whole_run);
     sizes();

@@ -1,6 +1,7 @@
-/* Tries the plain C of the benchmark on document 01's P1 to P11, its Run line, the two zeros, the sums and the status
- * codes of document 02, some refusals, and the examples: decided, and run as a programme. Run from the top of the
- * repository; built by bench/run. Exit status 0 if all is right, else 1. */
+/* Tries the plain C of the benchmark on document 01's P1 to P11, its Run line, the two zeros, the sums, the status
+ * codes and the issuers of document 02, some refusals, and the examples: decided, and run as a programme. Texts have 32
+ * digits a line but where there is an issuer. Run from the top of the repository; built by bench/run. Exit status 0 if
+ * all is right, else 1. */
 #include "books.h"
 #include "machine.h"
 #include "plain.h"
@@ -118,7 +119,7 @@ static void zeros(void)
     static const int holds[5] = { 1, 0, 1, 0, 1 };
     for (int i = 0; i < 4 * 6; i++) {
         int literal = i & 1, value = i >> 1 & 1, function = i >> 2, as_names = function == 5;
-        char name[40], policy[4 * 33], entry[34];
+        char name[40], policy[4 * SHORT_LINE], entry[SHORT_LINE + 1];
         if (as_names)
             function = 0;
         snprintf(name, sizeof name, "zeros %d and %d, function %d", literal, value, function + 1);
@@ -154,7 +155,7 @@ static void put_entries(char *text, unsigned type, const uint64_t *values)
 /* A rule that permits when the operator gives this result of the operands: Indeterminate where it gives none. */
 static void operates(unsigned operator, unsigned type, const uint64_t *operands, enum outcome outcome, uint64_t result)
 {
-    char name[80], policy[8 * 33 + 1], entries[2 * 33 + 1], *at;
+    char name[80], policy[8 * SHORT_LINE + 1], entries[2 * SHORT_LINE + 1], *at;
     put_entries(entries, type, operands);
     snprintf(name, sizeof name, "operator %u of %016llX and %016llX", operator, (unsigned long long)operands[0],
              (unsigned long long)operands[1]);
@@ -249,7 +250,7 @@ static void compares(unsigned type, uint64_t first, uint64_t second, int order)
 {
     static const char *const holds[5] = { "010", "001", "011", "100", "110" };
     uint64_t operands[2] = { first, second };
-    char name[60], policy[6 * 33 + 1], entries[2 * 33 + 1];
+    char name[60], policy[6 * SHORT_LINE + 1], entries[2 * SHORT_LINE + 1];
     put_entries(entries, type, operands);
     for (unsigned i = 0; i < 2 * (type == NAME ? 1 : 5); i++) {
         unsigned choice = 21 + i / 2;
@@ -288,7 +289,7 @@ static const char *const sum_book[SUM_LINES] = {
 /* That book with another record at this line; line 0 for none. */
 static void with_line(const char *what, unsigned line, const char *record, const char *entries, const char *expected)
 {
-    char text[SUM_LINES * 33 + 1], *at = text;
+    char text[SUM_LINES * SHORT_LINE + 1], *at = text;
     for (unsigned i = 1; i <= SUM_LINES; i++)
         at += sprintf(at, "%s\n", i == line ? record : sum_book[i - 1]);
     expect(what, text, entries, expected);
@@ -318,8 +319,8 @@ static void attributes_of_sums(void)
 /* A Permit rule under and, or or not of these conditions. */
 static void grouped(const char *what, unsigned choice, const char *parts, const char *expected)
 {
-    unsigned lines = (unsigned)strlen(parts) / 33;
-    char text[20 * 33 + 1];
+    unsigned lines = (unsigned)strlen(parts) / SHORT_LINE;
+    char text[20 * SHORT_LINE + 1];
     sprintf(text, "0203%04X%024d\n0301%04X%024d\n07%02X%04X%024d\n%s", lines + 3, 0, lines + 2, 0, choice, lines + 1, 0,
             parts);
     expect(what, text, "", expected);
@@ -402,7 +403,7 @@ static void places_of_sums(void)
 /* Operators one in the other, each the first operand of the one around it, round this innermost record. */
 static void nested_operators(const char *what, unsigned count, const char *innermost, const char *expected)
 {
-    char text[40 * 33 + 1], *at = text;
+    char text[40 * SHORT_LINE + 1], *at = text;
     unsigned records = 2 * count + 5;
     at += sprintf(at, "0203%04X%024d\n0301%04X%024d\n0716%04X%024d\n", records, 0, records - 1, 0, records - 2, 0);
     for (unsigned left = count; left > 0; left--)
@@ -471,7 +472,7 @@ static void codes_of_conditions(void)
         { OR, "12t", "010000" }, { NOT, "1", "040000 1" }, { NOT, "2", "040000 2" },
     };
     for (size_t i = 0; i < sizeof all / sizeof *all; i++) {
-        char name[40], text[8 * 33 + 1], *at = text;
+        char name[40], text[8 * SHORT_LINE + 1], *at = text;
         unsigned parts = (unsigned)strlen(all[i].parts);
         snprintf(name, sizeof name, "codes: condition %u of %s", all[i].choice, all[i].parts);
         at += sprintf(at, "0203%04X%024d\n0301%04X%024d\n07%02X%04X%024d\n", parts + 3, 0, parts + 2, 0,
@@ -490,7 +491,7 @@ static void codes_of_operands(void)
         { 2, 3, "040000 2" }, { 3, 3, "010000" },
     };
     for (size_t i = 0; i < sizeof all / sizeof *all; i++) {
-        char name[40], text[10 * 33 + 1];
+        char name[40], text[10 * SHORT_LINE + 1];
         snprintf(name, sizeof name, "codes: attributes %u and %u added", all[i].first, all[i].second);
         sprintf(text, "02030007%024d\n03010006%024d\n07150005%024d\n0A030003%024d\n0A0200010401%04X%016d\n"
                 "0A0200010401%04X%016d\n" LITERAL("02"), 0, 0, 0, 0, all[i].first, 0, all[i].second, 0);
@@ -517,7 +518,7 @@ static void codes_of_rules(void)
         { FIRST_APPLICABLE, "PtD1", "010000" },
     };
     for (size_t i = 0; i < sizeof all / sizeof *all; i++) {
-        char name[40], text[8 * 33 + 1], *at = text;
+        char name[40], text[8 * SHORT_LINE + 1], *at = text;
         snprintf(name, sizeof name, "codes: algorithm %u of rules %s", all[i].algorithm, all[i].rules);
         at += sprintf(at, "02%02X%04X%024d\n", all[i].algorithm, (unsigned)strlen(all[i].rules) + 1, 0);
         for (const char *rule = all[i].rules; *rule; rule += 2)
@@ -564,7 +565,7 @@ static void codes_of_sets(void)
         { ONLY_ONE_APPLICABLE, "nPmDnP", "020000" }, { ONLY_ONE_APPLICABLE, "n1n2", "030000" },
     };
     for (size_t i = 0; i < sizeof all / sizeof *all; i++) {
-        char name[48], text[20 * 33 + 1], *at = text;
+        char name[48], text[20 * SHORT_LINE + 1], *at = text;
         snprintf(name, sizeof name, "codes: algorithm %u of policies %s", all[i].algorithm, all[i].policies);
         at += sprintf(at, "01%02X%04X%024d\n", all[i].algorithm, 3 * (unsigned)strlen(all[i].policies) + 1, 0);
         for (const char *policy = all[i].policies; *policy; policy += 2)
@@ -581,7 +582,7 @@ static void codes_of_nested_sets(void)
         { ONLY_ONE_APPLICABLE, "040000 2" },
     };
     for (size_t i = 0; i < sizeof all / sizeof *all; i++) {
-        char name[40], text[20 * 33 + 1], *at = text;
+        char name[40], text[20 * SHORT_LINE + 1], *at = text;
         snprintf(name, sizeof name, "codes: algorithm %u of a set", all[i].algorithm);
         at += sprintf(at, "01%02X0014%024d\n0104000D%024d\n", all[i].algorithm, 0, 0);
         at += put_policy(at, 'm', '1');
@@ -598,6 +599,141 @@ static void codes(void)
     codes_of_rules();
     codes_of_sets();
     codes_of_nested_sets();
+}
+
+/* ---- Issuers ----------------------------------------------------------------------------------------------- */
+
+/* The length of a line that has an issuer. */
+enum { LINE = 2 * RECORD + 1 };
+
+/* How a Permit rule asks whether environment attribute 7 is 1. */
+enum asking { BY_MATCH, BY_PRESENT_MATCH, BY_COMPARISON, BY_SUM, ASKINGS };
+static const char *const askings[ASKINGS] = { "a match", "a match that must be present", "a comparison", "a sum" };
+
+/* Its policy, which asks for this issuer's value. */
+static void put_asking(char *text, enum asking how, unsigned issuer)
+{
+    if (how == BY_COMPARISON)
+        sprintf(text, "02030003%032d\n03010002%032d\n070B000104010007%016d%04X0000\n", 0, 0, 1, issuer);
+    else if (how == BY_SUM)
+        sprintf(text, "02030005%032d\n03010004%032d\n07150003%032d\n0A02000104010007%016d%04X0000\n"
+                "0A01000100010000%016d%08d\n", 0, 0, 0, 0, issuer, 1, 0);
+    else
+        sprintf(text, "02030005%032d\n03010004%032d\n0400000304%030d\n05000002%032d\n06010001%s0007%016d%04X0000\n",
+                0, 0, 0, 0, how == BY_MATCH ? "0401" : "0481", 1, issuer);
+}
+
+/* Puts an entry for environment attribute 7; returns its length. */
+static int put_vouched(char *text, unsigned issuer, unsigned value)
+{
+    return sprintf(text, "0401000700000000%016u%04X0000\n", value, issuer);
+}
+
+static void asks(enum asking how, unsigned issuer, const char *entries, const char *expected)
+{
+    char name[80], text[5 * LINE + 1];
+    snprintf(name, sizeof name, "issuers: %s of %04X's value", askings[how], issuer);
+    put_asking(text, how, issuer);
+    expect(name, text, entries, expected);
+}
+
+static const char yes[] = "010000", no[] = "030000", missing[] = "040000 1", several[] = "040000 2";
+
+/* Requests, each entry written as who vouches for it, n for nobody, and its value: what a match gives, one that must be
+ * present, and a comparison or a sum. */
+static void who_vouches(void)
+{
+    static const struct { unsigned issuer; const char *entries, *expected[3]; } all[] = {
+        { 5, "", { no, missing, missing } }, { 5, "51", { yes, yes, yes } }, { 5, "50", { no, no, no } },
+        { 5, "91", { no, missing, missing } }, { 5, "n1", { no, missing, missing } },
+        { 5, "n191", { no, missing, missing } }, { 5, "9150", { no, no, no } }, { 5, "50n1", { no, no, no } },
+        { 5, "9051", { yes, yes, yes } }, { 5, "51n091", { yes, yes, yes } }, { 5, "5051", { yes, yes, several } },
+        { 5, "505091", { no, no, several } }, { 0, "", { no, missing, missing } }, { 0, "51", { yes, yes, yes } },
+        { 0, "n1", { yes, yes, yes } }, { 0, "90", { no, no, no } }, { 0, "5091", { yes, yes, several } },
+        { 0, "n151", { yes, yes, several } }, { 0, "50n0", { no, no, several } },
+    };
+    for (size_t i = 0; i < sizeof all / sizeof *all; i++) {
+        char text[3 * LINE + 1] = "", *at = text;
+        for (const char *entry = all[i].entries; *entry; entry += 2)
+            at += put_vouched(at, *entry == 'n' ? 0 : (unsigned)(*entry - '0'), (unsigned)(entry[1] - '0'));
+        for (enum asking how = BY_MATCH; how < ASKINGS; how++)
+            asks(how, all[i].issuer, text, all[i].expected[how < BY_COMPARISON ? how : BY_COMPARISON]);
+    }
+}
+
+/* An issuer is both its bytes, in their order. */
+static void both_bytes(void)
+{
+    static const unsigned others[] = { 0x0005, 0x0100, 0x0501, 0x0000, 0x8105 };
+    char text[LINE + 1];
+    for (enum asking how = BY_MATCH; how < ASKINGS; how++) {
+        put_vouched(text, 0x0105, 1);
+        asks(how, 0x0105, text, yes);
+        for (size_t i = 0; i < sizeof others / sizeof *others; i++) {
+            put_vouched(text, others[i], 1);
+            asks(how, 0x0105, text, how == BY_MATCH ? no : missing);
+        }
+    }
+}
+
+/* A book of every kind of record: a match, a comparison and an attribute may have an issuer. */
+enum { A_MATCH = 5, A_COMPARISON = 9, AN_ATTRIBUTE = 13 };
+#define EVERY_KIND "01030011000000000000000000000000\n" \
+                   "0203000F000000000000000000000000\n" \
+                   "04000003040000000000000000000000\n" \
+                   "05000002000000000000000000000000\n" \
+                   "06010001040100070000000000000001\n" \
+                   "0301000A000000000000000000000000\n" \
+                   "07010009000000000000000000000000\n" \
+                   "07030002000000000000000000000000\n" \
+                   "070B0001040100070000000000000001\n" \
+                   "07020001000000000000000000000000\n" \
+                   "07150005000000000000000000000000\n" \
+                   "0A030003000000000000000000000000\n" \
+                   "0A020001040100070000000000000000\n" \
+                   "0A010001000100000000000000000001\n" \
+                   "0A010001000100000000000000000002\n" \
+                   "08010001000000110000000000000000\n" \
+                   "08020001000000120000000000000000\n"
+
+/* What is answered when one of bytes 16 to 19 of this record or entry is not zero: with an issuer, and else. */
+static void last_bytes(uint8_t *at, size_t book_len, size_t request_len, const char *with_issuer, const char *refused)
+{
+    for (unsigned byte = ISSUER; byte < RECORD; byte++) {
+        char name[24];
+        snprintf(name, sizeof name, "byte %u", byte);
+        at[byte] = (uint8_t)(1u << byte % 8);
+        expect_bytes(name, book_len, request_len, sizeof out, byte < ISSUER + 2 ? with_issuer : refused);
+        at[byte] = 0;
+    }
+}
+
+static void last_bytes_of_records(void)
+{
+    size_t book_len = bytes_of_text(EVERY_KIND, book, sizeof book);
+    expect_bytes("every kind", book_len, 0, sizeof out, no);
+    for (unsigned line = 1; line <= book_len / RECORD; line++) {
+        char refused[20];
+        snprintf(refused, sizeof refused, "FF050100%02X", line);
+        int may = line == A_MATCH || line == A_COMPARISON || line == AN_ATTRIBUTE;
+        last_bytes(book + (line - 1) * RECORD, book_len, 0, may ? no : refused, refused);
+    }
+}
+
+static void last_bytes_of_entries(void)
+{
+    size_t book_len = bytes_of_text(A, book, sizeof book);
+    size_t request_len = bytes_of_text(A_40 "04010008000000000000000000000028\n", request, sizeof request);
+    last_bytes(request, book_len, request_len, "0200010012", "FF05020001");
+    last_bytes(request + RECORD, book_len, request_len, "0200010012", "FF05020002");
+}
+
+static void issuers(void)
+{
+    who_vouches();
+    both_bytes();
+    last_bytes_of_records();
+    last_bytes_of_entries();
 }
 
 /* ---- Limits and refusals ----------------------------------------------------------------------------------- */
@@ -637,7 +773,9 @@ static void refusals(void)
     size_t book_len = bytes_of_text(A, book, sizeof book), request_len = bytes_of_text(A_40, request, sizeof request);
     expect_bytes("empty book, bad request", 0, 3, 0, "FF03010000");
     expect_bytes("length before number of records", MOST_BOOK + 1, 0, 0, "FF04010000");
-    expect_bytes("request not a multiple of 16", book_len, 15, 4, "FF04020000");
+    expect_bytes("request not a multiple of 20", book_len, RECORD - 1, 4, "FF04020000");
+    expect_bytes("records of 16 bytes", book_len / RECORD * ISSUER, request_len, 4, "FF04010000");
+    expect_bytes("an entry of 16 bytes", book_len, ISSUER, 4, "FF04020000");
     expect_bytes("output one byte short", book_len, request_len, 3, "FF07030000");
     expect_bytes("output just long enough", book_len, request_len, 4, "0200010012");
     expect_bytes("output with an odd byte", book_len, request_len, 5, "0200010012");
@@ -650,19 +788,49 @@ static void refusals(void)
     expect_bytes("entry with must-be-present", book_len, request_len, 4, "FF05020001");
 }
 
-/* The programme of book A, as docs/PROGRAMME.md has it. */
+/* Says so unless a book's programme is this one. */
+static void expect_programme(const char *name, size_t book_len, const uint64_t *entries, size_t length)
+{
+    static struct programme programme;
+    translate(&plain_machine, book, book_len, &programme);
+    if (programme.length != length || memcmp(programme.entries, entries, length * sizeof *entries) != 0) {
+        printf("plain C: the programme of %s is not that of docs/PROGRAMME.md\n", name);
+        failed = 1;
+    }
+}
+
+/* A book of three to five records whose one test asks for an issuer: where that stands. */
+static void programmes_of_issuers(void)
+{
+    static const struct { enum asking how; size_t length; uint64_t entries[9]; } all[] = {
+        { BY_MATCH, 7, { 0, 0x2008003F11, 1, 0x48D0000000, 5, 8, 0xB } },
+        { BY_COMPARISON, 7, { 0, 0x40100071D, 1, 0x1234, 5, 8, 0xB } },
+        { BY_SUM, 9, { 0, 0x48D01004001DC, 0x4C, 1, 0x27C, 4, 5, 8, 0xB } },
+    };
+    for (size_t i = 0; i < sizeof all / sizeof *all; i++) {
+        char text[5 * LINE + 1];
+        put_asking(text, all[i].how, 0x1234);
+        expect_programme(askings[all[i].how], bytes_of_text(text, book, sizeof book), all[i].entries, all[i].length);
+    }
+}
+
+/* The programme of book A, as docs/PROGRAMME.md has it, its run, and a run that meets an entry of no known number. */
 static void programme_of_a(void)
 {
-    static const uint64_t page[9] = { 0x90, 0x65, 0x401000722, 0x32, 0x15, 0x28, 0x229, 0x259, 0xB };
+    static const uint64_t page[10] = { 0x90, 0x85, 0x40100072D, 0x32, 0, 0x15, 0x28, 0x229, 0x259, 0xB };
     static struct programme programme;
+    static struct state state;
     uint16_t places[BACHUMOI_PLACES];
     size_t book_len = bytes_of_text(A, book, sizeof book), request_len = bytes_of_text(A_40, request, sizeof request);
     uint64_t steps = 0, refused = plain_machine.translate(book, book_len, programme.entries, BACHUMOI_ROOM(6) - 1);
+    expect_programme("book A", book_len, page, sizeof page / sizeof *page);
     translate(&plain_machine, book, book_len, &programme);
     run(&plain_machine, &programme, request, request_len, NULL, places, &steps);
-    int alike = programme.length == 9 && memcmp(programme.entries, page, sizeof page) == 0;
-    if (refused != 0x3000007FF || !alike || steps != 8) {
-        printf("plain C: the programme of book A is not that of docs/PROGRAMME.md\n");
+    programme.entries[2] = (page[2] & ~(uint64_t)15) | 2;
+    fresh(&plain_machine, &state);
+    if (refused != 0x3000007FF || steps != 8 ||
+        tick(&plain_machine, &programme, request, request_len, &state, 3, places) != 0x4000008FF) {
+        printf("plain C: the programme of book A is not made or run as bachumoi.h says\n");
         failed = 1;
     }
 }
@@ -710,9 +878,11 @@ int main(void)
     zeros();
     sums();
     codes();
+    issuers();
     run_line();
     refusals();
     programme_of_a();
+    programmes_of_issuers();
     examples("examples/a");
     examples("examples/rig");
     examples("examples/zero");

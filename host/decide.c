@@ -10,19 +10,21 @@
 #include <stdlib.h>
 #include <string.h>
 
-enum { RECORD = 16, UNTOUCHED = 0xEE };
+enum { RECORD = BACHUMOI_RECORD, UNTOUCHED = 0xEE };
+enum { SHORT_RECORD = BACHUMOI_ISSUER }; /* one without an issuer, which a text may have and a call may not */
 
 #define ZEROS_4 0, 0, 0, 0
 #define ZEROS_8 ZEROS_4, ZEROS_4
 #define ZEROS_12 ZEROS_4, ZEROS_8
+#define ZEROS_16 ZEROS_8, ZEROS_8
 
 static const uint8_t book_a[6 * RECORD] = {
-    0x02, 0x01, 0, 6, ZEROS_12,                         /* policy, deny-overrides */
-    0x03, 0x01, 0, 1, ZEROS_12,                         /* rule, Permit */
-    0x03, 0x02, 0, 2, ZEROS_12,                         /* rule, Deny, under the condition */
-    0x07, 0x0C, 0, 1, 4, 1, 0, 7, 0, 0, 0, 0, 0, 0, 0, 50,  /* 50 > integer environment attribute 7 */
-    0x08, 0x01, 0, 1, 0, 0, 0, 17, ZEROS_8,             /* obligation 17 on Permit */
-    0x08, 0x02, 0, 1, 0, 0, 0, 18, ZEROS_8,             /* obligation 18 on Deny */
+    0x02, 0x01, 0, 6, ZEROS_16,                         /* policy, deny-overrides */
+    0x03, 0x01, 0, 1, ZEROS_16,                         /* rule, Permit */
+    0x03, 0x02, 0, 2, ZEROS_16,                         /* rule, Deny, under the condition */
+    0x07, 0x0C, 0, 1, 4, 1, 0, 7, ZEROS_4, 0, 0, 0, 50, ZEROS_4,  /* 50 > integer environment attribute 7, anyone's */
+    0x08, 0x01, 0, 1, 0, 0, 0, 17, ZEROS_12,            /* obligation 17 on Permit */
+    0x08, 0x02, 0, 1, 0, 0, 0, 18, ZEROS_12,            /* obligation 18 on Deny */
 };
 
 /* Bytes with their length. */
@@ -123,11 +125,11 @@ static uint64_t refused(unsigned number, unsigned part, unsigned line)
     return 255 + 256 * (uint64_t)number + 65536 * (uint64_t)line + 4294967296 * (uint64_t)part;
 }
 
-/* An entry: this integer as environment attribute 7. */
+/* An entry: this integer as environment attribute 7, which nobody vouches for. */
 static void put_integer(uint8_t *entry, int64_t value)
 {
-    static const uint8_t key[8] = { 4, 1, 0, 7 };
-    memcpy(entry, key, 8);
+    static const uint8_t key[RECORD] = { 4, 1, 0, 7 };
+    memcpy(entry, key, RECORD);
     for (int i = 0; i < 8; i++)
         entry[8 + i] = (uint8_t)((uint64_t)value >> (56 - 8 * i));
 }
@@ -175,7 +177,8 @@ static void book_refusals(void)
 {
     static uint8_t long_book[1001 * RECORD];
     uint8_t spoilt[sizeof book_a];
-    expect("a book of 15 bytes", first(book_a, 15), empty, refused(4, 1, 0), first(left_alone, 4));
+    expect("a book of 19 bytes", first(book_a, RECORD - 1), empty, refused(4, 1, 0), first(left_alone, 4));
+    expect("six records of 16 bytes", first(book_a, 6 * SHORT_RECORD), empty, refused(4, 1, 0), first(left_alone, 4));
     expect("1,001 records", first(long_book, sizeof long_book), empty, refused(2, 1, 0), first(left_alone, 4));
     memcpy(spoilt, book_a, sizeof spoilt);
     spoilt[3 * RECORD + 4] = 5;
@@ -216,7 +219,8 @@ static void other_refusals(void)
 {
     uint8_t q[65 * RECORD];
     expect("65 entries", a, entries(q, 65, 40), refused(2, 2, 0), first(left_alone, 4));
-    expect("a request of 17 bytes", a, first(q, 17), refused(4, 2, 0), first(left_alone, 4));
+    expect("a request of 21 bytes", a, first(q, RECORD + 1), refused(4, 2, 0), first(left_alone, 4));
+    expect("a request of 16 bytes", a, first(q, SHORT_RECORD), refused(4, 2, 0), first(left_alone, 4));
     q[RECORD + 1] = 4;
     expect("entry 2 of type 4", a, first(q, 2 * RECORD), refused(5, 2, 2), first(left_alone, 4));
     expect("output one byte short", a, entries(q, 1, 40), refused(7, 3, 0), first(left_alone, 3));

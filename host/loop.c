@@ -96,7 +96,7 @@ struct write {
 
 static uint8_t *put(uint8_t *entry, uint8_t category, uint8_t type, uint8_t identifier, uint64_t value)
 {
-    const uint8_t key[8] = { category, type, 0, identifier };
+    const uint8_t key[BACHUMOI_RECORD] = { category, type, 0, identifier };
     memcpy(entry, key, sizeof key);
     for (int i = 0; i < 8; i++)
         entry[8 + i] = (uint8_t)(value >> (56 - 8 * i));
@@ -140,17 +140,31 @@ static struct check {
     size_t entries;
 } check;
 
-static void prepare_check(const char *path)
+/* Reads the lines of a book into zeros, which stay behind those of 32 digits; returns the length of the records. */
+static size_t read_book(const char *path, uint8_t *book)
 {
     FILE *file = fopen(path, "r");
     if (!file)
         stop("will not open", path);
-    size_t len = 0, most = BACHUMOI_MOST_RECORDS * BACHUMOI_RECORD;
-    uint8_t *book = lend(most);
-    while (len < most && fscanf(file, "%2hhx", &book[len]) == 1)
-        len++;
+    char line[64];
+    size_t len = 0, digits = 2 * BACHUMOI_RECORD;
+    for (; len < BACHUMOI_MOST_RECORDS * BACHUMOI_RECORD && fgets(line, sizeof line, file); len += BACHUMOI_RECORD) {
+        size_t found = strspn(line, "0123456789ABCDEFabcdef");
+        if (len == 0 && found == 2 * BACHUMOI_ISSUER)
+            digits = found;
+        if (found != digits || line[found] != '\n')
+            stop("a line has not 40 digits, or 32 as line 1 has", path);
+        for (size_t i = 0; i < digits / 2; i++)
+            sscanf(line + 2 * i, "%2hhx", &book[len + i]);
+    }
     fclose(file);
-    size_t room = BACHUMOI_ROOM(len / BACHUMOI_RECORD);
+    return len;
+}
+
+static void prepare_check(const char *path)
+{
+    uint8_t *book = lend(BACHUMOI_MOST_RECORDS * BACHUMOI_RECORD);
+    size_t len = read_book(path, book), room = BACHUMOI_ROOM(len / BACHUMOI_RECORD);
     check.programme = lend(room * sizeof *check.programme);
     check.entries = bachumoi_entries(bachumoi_translate(book, len, check.programme, room));
     if (check.entries == 0)

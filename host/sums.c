@@ -18,16 +18,16 @@ enum { RECORDS = 10, BOOK = RECORDS * BACHUMOI_RECORD, UNTOUCHED = 0xEE };
 enum { CONDITION = 4, OPERATOR, PRESSURE, OFFSET, LIMIT };
 
 static const char *const lines[RECORDS] = {
-    "0201000A000000000000000000000000", /* policy, deny-overrides */
-    "03010001000000000000000000000000", /* a rule: Permit */
-    "03020006000000000000000000000000", /* a rule: Deny, when */
-    "07160005000000000000000000000000", /* the first value is greater than the second: */
-    "0A030003000000000000000000000000", /* the sum of */
-    "0A020001020100040000000000000000", /* front pressure, an integer in resource attribute 4, */
-    "0A020001020100050000000000000000", /* and offset, in resource attribute 5; */
-    "0A010001000100000000000000000078", /* 120 */
-    "08010001000000410000000000000000", /* on Permit, obligation 65 */
-    "08020001000000420000000000000000", /* on Deny, obligation 66 */
+    "0201000A00000000000000000000000000000000", /* policy, deny-overrides */
+    "0301000100000000000000000000000000000000", /* a rule: Permit */
+    "0302000600000000000000000000000000000000", /* a rule: Deny, when */
+    "0716000500000000000000000000000000000000", /* the first value is greater than the second: */
+    "0A03000300000000000000000000000000000000", /* the sum of */
+    "0A02000102010004000000000000000000000000", /* front pressure, an integer in resource attribute 4, */
+    "0A02000102010005000000000000000000000000", /* and offset, in resource attribute 5; */
+    "0A01000100010000000000000000007800000000", /* 120 */
+    "0801000100000041000000000000000000000000", /* on Permit, obligation 65 */
+    "0802000100000042000000000000000000000000", /* on Deny, obligation 66 */
 };
 
 /* What is expected of a question: the decision, its obligation if there is one, its code if it is Indeterminate. */
@@ -116,7 +116,7 @@ static uint8_t *lend_request(const struct question *q, size_t *len)
     uint8_t *request = lend(*len);
     for (unsigned i = 0; i < entries; i++) {
         uint8_t *entry = request + i * BACHUMOI_RECORD;
-        uint8_t key[8] = { 2, q->type, 0, i < q->pressures ? 4 : 5 };
+        uint8_t key[BACHUMOI_RECORD] = { 2, q->type, 0, i < q->pressures ? 4 : 5 };
         memcpy(entry, key, sizeof key);
         put_value(entry + 8, i < q->pressures ? q->pressure : q->offset);
     }
@@ -311,38 +311,39 @@ static void refuses(const char *what, unsigned line, const char *record, unsigne
 
 static void broken_fields(void)
 {
-    refuses("a literal that must be present", LIMIT, "0A010001008100000000000000000078", 5, LIMIT);
-    refuses("a literal with a category", LIMIT, "0A010001020100000000000000000078", 5, LIMIT);
-    refuses("a literal with an identifier", LIMIT, "0A010001000100040000000000000078", 5, LIMIT);
-    refuses("a literal of no type", LIMIT, "0A010001000400000000000000000078", 5, LIMIT);
-    refuses("a literal that is infinite", LIMIT, "0A010001000300007FF0000000000000", 5, LIMIT);
-    refuses("a literal with something below it", LIMIT, "0A010002000100000000000000000078", 5, LIMIT);
-    refuses("an attribute of no category", PRESSURE, "0A020001000100040000000000000000", 5, PRESSURE);
-    refuses("an attribute with a value", PRESSURE, "0A020001020100040000000000000001", 5, PRESSURE);
-    refuses("an operator with a type", OPERATOR, "0A030003000100000000000000000000", 5, OPERATOR);
-    refuses("an operator of span 0", OPERATOR, "0A030000000000000000000000000000", 5, OPERATOR);
-    refuses("choice 9 of a value", OPERATOR, "0A090003000000000000000000000000", 5, OPERATOR);
-    refuses("choice 20 of a condition", CONDITION, "07140005000000000000000000000000", 5, CONDITION);
-    refuses("choice 26 of a condition", CONDITION, "071A0005000000000000000000000000", 5, CONDITION);
-    refuses("a comparison of values with a category", CONDITION, "07160005020000000000000000000000", 5, CONDITION);
+    refuses("a literal that must be present", LIMIT, "0A01000100810000000000000000007800000000", 5, LIMIT);
+    refuses("a literal with a category", LIMIT, "0A01000102010000000000000000007800000000", 5, LIMIT);
+    refuses("a literal with an identifier", LIMIT, "0A01000100010004000000000000007800000000", 5, LIMIT);
+    refuses("a literal of no type", LIMIT, "0A01000100040000000000000000007800000000", 5, LIMIT);
+    refuses("a literal that is infinite", LIMIT, "0A010001000300007FF000000000000000000000", 5, LIMIT);
+    refuses("a literal with something below it", LIMIT, "0A01000200010000000000000000007800000000", 5, LIMIT);
+    refuses("an attribute of no category", PRESSURE, "0A02000100010004000000000000000000000000", 5, PRESSURE);
+    refuses("an attribute with a value", PRESSURE, "0A02000102010004000000000000000100000000", 5, PRESSURE);
+    refuses("an operator with a type", OPERATOR, "0A03000300010000000000000000000000000000", 5, OPERATOR);
+    refuses("an operator of span 0", OPERATOR, "0A03000000000000000000000000000000000000", 5, OPERATOR);
+    refuses("choice 9 of a value", OPERATOR, "0A09000300000000000000000000000000000000", 5, OPERATOR);
+    refuses("choice 20 of a condition", CONDITION, "0714000500000000000000000000000000000000", 5, CONDITION);
+    refuses("choice 26 of a condition", CONDITION, "071A000500000000000000000000000000000000", 5, CONDITION);
+    refuses("a comparison of values with a category", CONDITION, "0716000502000000000000000000000000000000", 5,
+            CONDITION);
 }
 
 /* The line is that of the operator or comparison whose operands are wrong, or of a value that stands elsewhere. */
 static void broken_places(void)
 {
-    refuses("an offset that is a double", OFFSET, "0A020001020300050000000000000000", 11, OPERATOR);
-    refuses("an offset that is a name", OFFSET, "0A020001020200050000000000000000", 11, OPERATOR);
-    refuses("an offset that is a condition", OFFSET, "070B0001020100050000000000000000", 11, OPERATOR);
-    refuses("an offset that is an operator of nothing", OFFSET, "0A030001000000000000000000000000", 11, OFFSET);
-    refuses("an offset that runs too far", OFFSET, "0A030002000000000000000000000000", 11, CONDITION);
-    refuses("a limit that is a double", LIMIT, "0A010001000300000000000000000000", 11, CONDITION);
-    refuses("a limit that runs too far", LIMIT, "0A030002000000000000000000000000", 10, LIMIT);
-    refuses("double add of integers", OPERATOR, "0A080003000000000000000000000000", 11, CONDITION);
-    refuses("an operator of one operand", OPERATOR, "0A030002000000000000000000000000", 11, CONDITION);
-    refuses("a comparison of one value", CONDITION, "07160004000000000000000000000000", 11, CONDITION);
-    refuses("a value for a condition", CONDITION, "0A030005000000000000000000000000", 11, CONDITION);
-    refuses("a value for a rule", 2, "0A010001000100000000000000000078", 11, 2);
-    refuses("a value for a policy", 1, "0A03000A000000000000000000000000", 9, 1);
+    refuses("an offset that is a double", OFFSET, "0A02000102030005000000000000000000000000", 11, OPERATOR);
+    refuses("an offset that is a name", OFFSET, "0A02000102020005000000000000000000000000", 11, OPERATOR);
+    refuses("an offset that is a condition", OFFSET, "070B000102010005000000000000000000000000", 11, OPERATOR);
+    refuses("an offset that is an operator of nothing", OFFSET, "0A03000100000000000000000000000000000000", 11, OFFSET);
+    refuses("an offset that runs too far", OFFSET, "0A03000200000000000000000000000000000000", 11, CONDITION);
+    refuses("a limit that is a double", LIMIT, "0A01000100030000000000000000000000000000", 11, CONDITION);
+    refuses("a limit that runs too far", LIMIT, "0A03000200000000000000000000000000000000", 10, LIMIT);
+    refuses("double add of integers", OPERATOR, "0A08000300000000000000000000000000000000", 11, CONDITION);
+    refuses("an operator of one operand", OPERATOR, "0A03000200000000000000000000000000000000", 11, CONDITION);
+    refuses("a comparison of one value", CONDITION, "0716000400000000000000000000000000000000", 11, CONDITION);
+    refuses("a value for a condition", CONDITION, "0A03000500000000000000000000000000000000", 11, CONDITION);
+    refuses("a value for a rule", 2, "0A01000100010000000000000000007800000000", 11, 2);
+    refuses("a value for a policy", 1, "0A03000A00000000000000000000000000000000", 9, 1);
 }
 
 int main(void)

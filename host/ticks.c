@@ -12,14 +12,15 @@
 #include <string.h>
 
 static const char *const book_a[6] = {
-    "02010006000000000000000000000000", "03010001000000000000000000000000", "03020002000000000000000000000000",
-    "070C0001040100070000000000000032", "08010001000000110000000000000000", "08020001000000120000000000000000",
+    "0201000600000000000000000000000000000000", "0301000100000000000000000000000000000000",
+    "0302000200000000000000000000000000000000", "070C000104010007000000000000003200000000",
+    "0801000100000011000000000000000000000000", "0802000100000012000000000000000000000000",
 };
 
 /* Its programme, as docs/PROGRAMME.md has it. */
-enum { A_RECORDS = 6, A_ENTRIES = 9 };
+enum { A_RECORDS = 6, A_ENTRIES = 10, A_CONCLUDE = 6 };
 static const uint64_t programme_a[A_ENTRIES] = {
-    0x90, 0x65, 0x401000722, 0x32, 0x15, 0x28, 0x229, 0x259, 0xB,
+    0x90, 0x85, 0x40100072D, 0x32, 0, 0x15, 0x28, 0x229, 0x259, 0xB,
 };
 
 static const uint64_t fresh_number = (uint64_t)1 << 57; /* the first number of the fresh state, as that page has it */
@@ -140,7 +141,7 @@ static struct lent lend_run(unsigned entries, int64_t value)
     l.out = lend(l.out_len * sizeof *l.out);
     l.request = lend(l.request_len);
     for (size_t i = 0; i < l.request_len; i += BACHUMOI_RECORD) {
-        static const uint8_t key[8] = { 4, 1, 0, 7 };
+        static const uint8_t key[BACHUMOI_RECORD] = { 4, 1, 0, 7 };
         memcpy(l.request + i, key, sizeof key);
         for (int k = 0; k < 8; k++)
             l.request[i + 8 + (size_t)k] = (uint8_t)((uint64_t)value >> (56 - 8 * k));
@@ -230,14 +231,17 @@ static void refuses(const char *what, struct lent l, uint64_t budget, uint64_t e
 static void order_of_refusals(void)
 {
     struct lent l = lend_run(1, 40), all = l;
-    all.request_len = 15;
+    all.request_len = BACHUMOI_RECORD - 1;
     all.out_len = BACHUMOI_PLACES - 1;
     all.programme_len = 0;
-    refuses("a request of 15 bytes, and more", all, 1, refused(4, 2, 0));
+    refuses("a request of 19 bytes, and more", all, 1, refused(4, 2, 0));
     all.request_len = BACHUMOI_RECORD;
     l.request[1] = 4;
     refuses("an entry of type 4, and more", all, 1, refused(5, 2, 1));
     l.request[1] = 1;
+    l.request[BACHUMOI_RECORD - 1] = 1;
+    refuses("an entry whose last byte is 1, and more", all, 1, refused(5, 2, 1));
+    l.request[BACHUMOI_RECORD - 1] = 0;
     refuses("an output of 999 places, and more", all, 1, refused(7, 3, 0));
     all.out_len = BACHUMOI_PLACES;
     refuses("no programme", all, 0, refused(8, 4, 0));
@@ -263,14 +267,26 @@ static void bad_states(void)
 }
 
 /* Book A's fifth step meets an entry that is none: four steps are taken, a fifth is refused. */
-static void bad_entries(void)
+static void bad_entry(uint64_t entry)
 {
     struct lent l = lend_run(1, 40);
-    l.programme[5] = 13;
+    l.programme[A_CONCLUDE] = entry;
     refuses("five steps", l, 5, refused(8, 4, 0));
     check("four steps", tick(l, 4) == (uint64_t)4 << 32);
     refuses("one step more", l, 1, refused(8, 4, 0));
     check("no step more", tick(l, 0) == 0);
+    give_back(l);
+}
+
+/* No entry has the number 2, 14 or 15; 13 is a comparison, which has two entries more. */
+static void bad_entries(void)
+{
+    bad_entry(2);
+    bad_entry(14);
+    bad_entry(15);
+    struct lent l = lend_run(1, 40);
+    l.programme[A_ENTRIES - 2] = 13;
+    refuses("a comparison cut short", l, 8, refused(8, 4, 0));
     give_back(l);
 }
 

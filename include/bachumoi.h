@@ -16,12 +16,21 @@ extern "C" {
 
 /* ---- Deciding: link libhost.a ------------------------------------------------------------------------------
  *
- *   book     book_len bytes: 1 to 1,000 records of 16 bytes, parent first
- *   request  request_len bytes: 0 to 64 entries of 16 bytes. A double is compared as C compares it: -0.0 is 0.0. A
+ *   book     book_len bytes: 1 to 1,000 records of 20 bytes, parent first
+ *   request  request_len bytes: 0 to 64 entries of 20 bytes. A double is compared as C compares it: -0.0 is 0.0. A
  *            name is told by its eight bytes. A sum in a condition is exact for integers and rounded once for
  *            doubles; one that has no result (no 64 bits hold it, a divisor is 0, a double is not finite, an attribute
  *            is missing or there twice) makes its comparison Indeterminate
  *   out      out_len bytes, for the obligations: at least twice as many bytes as the book has obligation records
+ *
+ * Bytes 16 and 17 of a record or entry, the higher first, are its issuer. In an entry that is who vouches for its
+ * value, 0 for nobody. In a match (kind 06), a comparison with a literal (07, choices 11 to 15) and an attribute of a
+ * sum (0A, choice 2) it is whose values are asked for: 0 takes any, nobody's too, and any other number takes its own
+ * alone. Every other record has 0 there. Bytes 18 and 19 are 0 in all of them.
+ *
+ * A text of a book or request has 40 hexadecimal digits a line, a record or entry each; or 32 in every line, where
+ * line 1 has as many: bytes 16 to 19 are then 0. These functions take bytes, so a host that itself reads a text of 32
+ * digits a line has to put the four zeros there.
  *
  * The number returned is one of two.
  *
@@ -33,7 +42,7 @@ extern "C" {
  *                4  Indeterminate
  *   bits 8-23    count, how many obligations there are (0 unless Permit or Deny)
  *   bits 40-47   code, why Indeterminate (0 unless Indeterminate):
- *                1  missing attribute: the request has no value of an attribute that is wanted
+ *                1  missing attribute: the request has no value of an attribute that is wanted, or none of its issuer
  *                2  processing error: it has several where one is wanted, or a sum has no result, or two children of
  *                   an only-one-applicable set apply
  *
@@ -52,9 +61,9 @@ extern "C" {
  *   bits 8-15    number, why:
  *                2  more than 1,000 records or 64 entries
  *                3  the book is empty
- *                4  the length is not a multiple of 16
+ *                4  the length is not a multiple of 20
  *                5  a record or entry breaks a field rule: kind, choice, category, type, finite value, function of
- *                   a name, unused bytes, or a span that its kind cannot have
+ *                   a name, unused bytes, an issuer where none may stand, or a span that its kind cannot have
  *                7  out is too short
  *                9  line 1 is no policy or set, or its span is not the record count
  *                10 a record runs past its parent's end
@@ -142,7 +151,8 @@ static inline enum bachumoi_status bachumoi_decide_status(uint64_t number)
  * A run takes no more steps than its programme has entries, and at least one, however they are dealt out.
  */
 enum {
-    BACHUMOI_RECORD = 16,           /* bytes of a record of a book, and of an entry of a request */
+    BACHUMOI_RECORD = 20,           /* bytes of a record of a book, and of an entry of a request */
+    BACHUMOI_ISSUER = 16,           /* the first of the two bytes in them that are the issuer */
     BACHUMOI_MOST_RECORDS = 1000,   /* records of a book */
     BACHUMOI_MOST_ENTRIES = 64,     /* entries of a request */
     BACHUMOI_MOST_PROGRAMME = 8008, /* numbers of a programme: room for any book's */
@@ -156,7 +166,7 @@ enum {
 /* Translates a book.
  *
  *   book        book_len bytes, as for bachumoi_decide
- *   programme   programme_len numbers, at least BACHUMOI_ROOM(book_len / 16)
+ *   programme   programme_len numbers, at least BACHUMOI_ROOM(book_len / BACHUMOI_RECORD)
  *
  * Returns 256 x the number of entries that it has put first in programme, 1 to BACHUMOI_ROOM of them; all other numbers
  * are as they were. Or a refusal, of the book (part 1, as bachumoi_decide gives it), then of the output (7, part 3):

@@ -40,4 +40,4 @@ printed bookText requestText = afterBook (readOf book bookText (size * mostRecor
 
 -- of a text one byte more is read than as many lines as there may be; what is printed is what the whole text says
 abbrev pub AnyLength : Type 0
-AnyLength = (bookText requestText : List ℕ) → printed (take (lineLength * mostRecords + 1) bookText) (take (lineLength * mostEntries + 1) requestText) ≡ printed bookText requestText
+AnyLength = (bookText requestText : List ℕ) → printed (take (lineLength size * mostRecords + 1) bookText) (take (lineLength size * mostEntries + 1) requestText) ≡ printed bookText requestText

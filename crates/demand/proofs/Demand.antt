@@ -53,27 +53,27 @@ use Rattle.demand.proofs.Course.{course, fresh-allowed}
 use Rattle.layout.specs.Room.{roomP}
 
 -- keys and numbers that are read from bytes fit
-pub key-small : (b : List ℕ) → Bytes b → (i : ℕ) → keyAt b i < 4294967296
+two-small : (b : List ℕ) → Bytes b → (at : ℕ) → bigOf b at 2 < 65536
+two-small b w at =
+    let e = big-two b at in
+    let a = w at in
+    let c = w (at + 1) in
+    omega (arith, e, a, c)
+
+pub key-small : (b : List ℕ) → Bytes b → (i : ℕ) → keyAt b i < 281474976710656
 unfolding keyAt
 key-small b w i =
     let a = w (i * size + 4) in
     let c = w (i * size + 6) in
     let d = w (i * size + 7) in
-    omega (arith, a, c, d)
-
-number-small : (b : List ℕ) → Bytes b → (i : ℕ) → bigOf b (i * size + 6) 2 < 65536
-number-small b w i =
-    let e = big-two b (i * size + 6) in
-    let a = w (i * size + 6) in
-    let c = w (i * size + 6 + 1) in
-    omega (arith, e, a, c)
+    omega (arith, a, c, d, two-small b w (i * size + 16))
 
 tests-small : (b : List ℕ) → Bytes b → (i : ℕ) → Key (matchAt b i) × Key (comparisonAt b i)
 unfolding matchAt comparisonAt testAt
 tests-small b w i = (key-small b w i, key-small b w i)
 
 tree-small : (b : List ℕ) → Bytes b → InTree Key Short (bookOf b)
-tree-small b w = book-has b Key Short (tests-small b w) (λ i e. number-small b w i) (key-small b w)
+tree-small b w = book-has b Key Short (tests-small b w) (λ i e. two-small b w (i * size + 6)) (key-small b w)
 
 -- what acceptance gives
 record Sizes (b : List ℕ) (n : ℕ) : Type 0 where

@@ -24,9 +24,10 @@ use Rattle.translator.specs.Translate.{programmeOf}
 page : List ℕ
 page =
     0x90
-    ∷ 0x65
-    ∷ 0x401000722
+    ∷ 0x85
+    ∷ 0x40100072D
     ∷ 0x32
+    ∷ 0
     ∷ 0x15
     ∷ 0x28
     ∷ 0x229

@@ -16,6 +16,7 @@ use Rattle.record.specs.Forest.{Forest, spanIn, forest}
 use Rattle.record.proofs.Forests.{forest-none, forest-more}
 use Rattle.meaning.specs.Policy.{last, more, Conjunction, Section, Target, compares, all, any}
 use Rattle.meaning.specs.Meaning.{overRules, overPolicies, same, isOnly}
+use Rattle.meaning.specs.Numbers.{bareOf, issuerOf}
 use Rattle.meaning.specs.Reading.{isKind, isParty, choiceAt, comparisonAt, sectionAt, targetIn, notAt, exprsIn, weighsAt, conditionAt, conditionsIn, whenIn, effectOf, ruleAt, rulesIn, obligationsIn, rulesBy, policiesBy, treeAt, treesIn, bookOf}
 use Rattle.meaning.proofs.Cases.{tree-by}
 use Rattle.meaning.specs.declared.Test.{Test}
@@ -228,17 +229,17 @@ module _ (b : List ℕ) where
 
   -- conditions; choices between those that join parts and those that compare two operands are of a literal with an attribute
   condition-other : (i s n : ℕ) → (byteOf b i 1 ≡ 1 → ⊥) → (byteOf b i 1 ≡ 2 → ⊥) → (byteOf b i 1 ≡ 3 → ⊥) → byteOf b i 1 ≤ 20
-      → conditionCode b i s n ≡ compare (comparisonAt b i) n ∷ further ∷ []
+      → conditionCode b i s n ≡ compare (comparisonAt b i) n ∷ further ∷ further ∷ []
   unfolding conditionCode conditionAt codeCondition
   condition-other i s n p q r e = rw (ne-eqb (byteOf b i 1) 1 p, ne-eqb (byteOf b i 1) 2 q, ne-eqb (byteOf b i 1) 3 r, le-ltb 20 (byteOf b i 1) e) refl
 
-  pub condition-zero : (i s n : ℕ) → byteOf b i 1 ≡ 0 → conditionCode b i s n ≡ compare (comparisonAt b i) n ∷ further ∷ []
+  pub condition-zero : (i s n : ℕ) → byteOf b i 1 ≡ 0 → conditionCode b i s n ≡ compare (comparisonAt b i) n ∷ further ∷ further ∷ []
   condition-zero i s n e = condition-other i s n (λ z. omega (arith, e, z)) (λ z. omega (arith, e, z)) (λ z. omega (arith, e, z)) (omega (arith, e))
 
-  pub condition-low : (i s n : ℕ) → 3 < byteOf b i 1 → byteOf b i 1 ≤ 20 → conditionCode b i s n ≡ compare (comparisonAt b i) n ∷ further ∷ []
+  pub condition-low : (i s n : ℕ) → 3 < byteOf b i 1 → byteOf b i 1 ≤ 20 → conditionCode b i s n ≡ compare (comparisonAt b i) n ∷ further ∷ further ∷ []
   condition-low i s n e f = condition-other i s n (λ z. omega (arith, e, z)) (λ z. omega (arith, e, z)) (λ z. omega (arith, e, z)) f
 
-  pub condition-bare : (i s n : ℕ) → byteOf b i 1 ≡ 3 → s ≡ 1 → conditionCode b i s n ≡ compare (comparisonAt b i) n ∷ further ∷ []
+  pub condition-bare : (i s n : ℕ) → byteOf b i 1 ≡ 3 → s ≡ 1 → conditionCode b i s n ≡ compare (comparisonAt b i) n ∷ further ∷ further ∷ []
   unfolding conditionCode conditionAt codeCondition conditionsIn
   condition-bare i s n e f =
       rw (ne-eqb (byteOf b i 1) 1 (λ z. omega (arith, e, z)), ne-eqb (byteOf b i 1) 2 (λ z. omega (arith, e, z)), eq-eqb (byteOf b i 1) 3 e, forest-none b (i + 1) (s - 1) (omega (arith, f))) refl
@@ -371,14 +372,15 @@ module _ {end start : ℕ} {o o₁ : List ℕ} where
   begun a c {n} e f = let g : 16 * (algorithmCode a + 8 * c) ≡ 0 + 16 * (n + 8 * c) = omega (arith, e) in entry (begin a c) (ap (λ (k : ℕ). k ∷ []) g) refl f
 
 -- a comparison and a match
-pub compared : (n : ℕ) {t u : Test} {w end mid start : ℕ} {o o₁ o₂ : List ℕ} → t ≡ u → w ≡ 2 + 16 * (testWord t + 16 * (t .key + 4294967296 * n))
-    → Wrote (t .literal ∷ []) end o o₁ mid → Wrote (w ∷ []) mid o₁ o₂ start → Emitted (compare u n ∷ further ∷ []) end o o₂ start
+pub compared : (n : ℕ) {t u : Test} {w end mid low start : ℕ} {o o₁ o₂ o₃ : List ℕ} → t ≡ u → w ≡ 13 + 16 * (testWord t + 16 * (bareOf (t .key) + 4294967296 * n))
+    → Wrote (issuerOf (t .key) ∷ []) end o o₁ mid → Wrote (t .literal ∷ []) mid o₁ o₂ low → Wrote (w ∷ []) low o₂ o₃ start
+    → Emitted (compare u n ∷ further ∷ further ∷ []) end o o₃ start
 unfolding wordsOf
-compared n {t} {u} e f g h = rw (← e) (entry (compare t n) (rw f refl) refl (wrote-both g h))
+compared n {t} {u} e f g h k = rw (← e) (entry (compare t n) (rw f refl) refl (wrote-both (wrote-both g h) k))
 
 pub matched : (m c l : Bool) (i j x : ℕ) {t u : Test} {w end mid low start : ℕ} {o o₁ o₂ o₃ : List ℕ} → t ≡ u
-    → w ≡ 1 + 16 * (testWord t + 16 * (bitOf m + 2 * (bitOf c + 2 * (bitOf l + 2 * (t .key + 4294967296 * i)))))
-    → Wrote ((j + 8192 * x) ∷ []) end o o₁ mid → Wrote (t .literal ∷ []) mid o₁ o₂ low → Wrote (w ∷ []) low o₂ o₃ start
+    → w ≡ 1 + 16 * (testWord t + 16 * (bitOf m + 2 * (bitOf c + 2 * (bitOf l + 2 * (bareOf (t .key) + 4294967296 * i)))))
+    → Wrote ((j + 8192 * (x + 8192 * issuerOf (t .key))) ∷ []) end o o₁ mid → Wrote (t .literal ∷ []) mid o₁ o₂ low → Wrote (w ∷ []) low o₂ o₃ start
     → Emitted (match u m c l i j x ∷ further ∷ further ∷ []) end o o₃ start
 unfolding wordsOf
 matched m c l i j x {t} {u} e f g h k = rw (← e) (entry (match t m c l i j x) (rw f refl) refl (wrote-both (wrote-both g h) k))

@@ -107,7 +107,7 @@ module _ (b : List ℕ) (i stop n : ℕ) (h : i < stop) {c : ℕ} (C : c ≡ byt
   unfolding conditionCode conditionAt
   is-weighing = rw (← C, ne-eqb c 1 (λ z. omega (arith, high, z)), ne-eqb c 2 (λ z. omega (arith, high, z)), ne-eqb c 3 (λ z. omega (arith, high, z)), lt-ltb 20 c high) refl
 
-  pub weighing-few : secondIn b i stop ≡ stop → conditionCode b i (stop - i) n ≡ compare (comparisonAt b i) n ∷ further ∷ []
+  pub weighing-few : secondIn b i stop ≡ stop → conditionCode b i (stop - i) n ≡ compare (comparisonAt b i) n ∷ further ∷ further ∷ []
   unfolding codeCondition
   weighing-few e = is-weighing ∙ rw (few b i stop h (weighs (functionOf (c - 20))) (compares (comparisonAt b i)) e) refl
 

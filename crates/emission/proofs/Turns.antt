@@ -214,7 +214,7 @@ module _ (b : List ℕ) {t : List ℕ} {i stop : ℕ} where
 
 -- the condition at record i, by where its parts end
 module _ (b : List ℕ) (i stop n : ℕ) (h : i < stop) where
-  pub cond-bare : byteOf b i 1 ≡ 3 → i + 1 ≡ stop → conditionCode b i (stop - i) n ≡ compare (comparisonAt b i) n ∷ further ∷ []
+  pub cond-bare : byteOf b i 1 ≡ 3 → i + 1 ≡ stop → conditionCode b i (stop - i) n ≡ compare (comparisonAt b i) n ∷ further ∷ further ∷ []
   cond-bare e f = condition-bare b i (stop - i) n e (omega (arith, f))
 
   pub cond-not : (t : ℕ) → byteOf b i 1 ≡ 3 → (i + 1 ≡ stop → ⊥) → t ≡ spanIn b (i + 1) (stop - (i + 1))

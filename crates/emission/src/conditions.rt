@@ -18,6 +18,7 @@ ghost use Prim.Native.Nat.{_+_, _*_, _-_, _<_, _≤_};
 ghost use lib.ListN.{length};
 ghost use Rattle.record.specs.Bytes.{size, mostRecords};
 ghost use Rattle.record.specs.Forest.{forest};
+ghost use Rattle.meaning.specs.Numbers.{bareOf};
 ghost use Rattle.meaning.specs.Reading.{choiceAt, comparisonAt};
 ghost use Rattle.layout.specs.Entry.{further, compare};
 ghost use Rattle.layout.specs.Layout.{testWord};
@@ -27,19 +28,20 @@ ghost use Rattle.elders.specs.Links.{Linked, Below};
 // The first number of a comparison.
 fn compare_word(t: Test, n: usize) -> u64
     requires { ⌜ n < 32768 ⌝ }
-    ensures { λ r. ⌜ r ≡ 2 + 16 * (testWord t + 16 * (t .key + 4294967296 * n)) ⌝ }
+    ensures { λ r. ⌜ r ≡ 13 + 16 * (testWord t + 16 * (bareOf (t .key) + 4294967296 * n)) ⌝ }
 {
-    let key = t.key as u64 + 4294967296 * n as u64;
+    let key = t.key % 4294967296 + 4294967296 * n as u64;
     COMPARE + 16 * (test_word(t) + 16 * key)
 }
 
 // The comparison at record i.
 fn comparison(book: &[u8], i: usize, n: usize, out: &mut [u64], end: usize) -> usize
-    requires { ⌜ ((i + 1) * size ≤ length (now book)) × (2 ≤ end) × (n < 32768) ⌝ }
-    ensures { λ r. ⌜ Emitted (compare (comparisonAt (now (book .entry)) i) n ∷ further ∷ []) end (now (out .entry)) (now (out .exit)) r ⌝ }
+    requires { ⌜ ((i + 1) * size ≤ length (now book)) × (3 ≤ end) × (n < 32768) ⌝ }
+    ensures { λ r. ⌜ Emitted (compare (comparisonAt (now (book .entry)) i) n ∷ further ∷ further ∷ []) end (now (out .entry)) (now (out .exit)) r ⌝ }
 {
     let t = rules::comparison_at(book, i);
-    let literal = prepend(out, end, t.literal);
+    let issuer = prepend(out, end, t.key / 4294967296);
+    let literal = prepend(out, issuer, t.literal);
     prepend(out, literal, compare_word(t, n))
 }
 

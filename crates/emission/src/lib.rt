@@ -20,8 +20,6 @@ pub const BEGIN: u64 = 0;
 
 pub const MATCH: u64 = 1;
 
-pub const COMPARE: u64 = 2;
-
 pub const OPENS: u64 = 3;
 
 pub const CLOSE: u64 = 4;
@@ -41,6 +39,8 @@ pub const LEAVE: u64 = 10;
 pub const FINISH: u64 = 11;
 
 pub const SUM: u64 = 12;
+
+pub const COMPARE: u64 = 13;
 
 // A store that a slice without the place ignores, so that the length of a programme is found without writing it.
 fn put(out: &mut [u64], at: usize, number: u64)

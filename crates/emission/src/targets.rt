@@ -12,6 +12,7 @@ ghost use Prim.Native.Nat.{_+_, _*_, _-_, _<_, _≤_};
 ghost use lib.ListN.{length};
 ghost use Rattle.record.specs.Bytes.{size, mostRecords};
 ghost use Rattle.record.specs.Forest.{forest};
+ghost use Rattle.meaning.specs.Numbers.{bareOf};
 ghost use Rattle.meaning.specs.Reading.{matchAt};
 ghost use Rattle.layout.specs.Entry.{match, further};
 ghost use Rattle.layout.specs.Layout.{bitOf, testWord};
@@ -21,9 +22,9 @@ ghost use Rattle.elders.specs.Links.{Linked, Below};
 // The first number of a match.
 fn match_word(t: Test, m: bool, c: bool, l: bool, n: usize) -> u64
     requires { ⌜ n < 32768 ⌝ }
-    ensures { λ r. ⌜ r ≡ 1 + 16 * (testWord t + 16 * (bitOf m + 2 * (bitOf c + 2 * (bitOf l + 2 * (t .key + 4294967296 * n))))) ⌝ }
+    ensures { λ r. ⌜ r ≡ 1 + 16 * (testWord t + 16 * (bitOf m + 2 * (bitOf c + 2 * (bitOf l + 2 * (bareOf (t .key) + 4294967296 * n))))) ⌝ }
 {
-    let key = t.key as u64 + 4294967296 * n as u64;
+    let key = t.key % 4294967296 + 4294967296 * n as u64;
     let lasts = bit(m) + 2 * (bit(c) + 2 * (bit(l) + 2 * key));
     MATCH + 16 * (test_word(t) + 16 * lasts)
 }
@@ -46,8 +47,9 @@ fn match_entry(
     ensures { λ r. ⌜ Emitted (match (matchAt (now (book .entry)) i) m c l next n x ∷ further ∷ further ∷ []) end (now (out .entry)) (now (out .exit)) r ⌝ }
 {
     let t = rules::match_at(book, i);
-    let ways = prepend(out, end, n as u64 + 8192 * x as u64);
-    let literal = prepend(out, ways, t.literal);
+    let issuer = t.key / 4294967296;
+    let third = prepend(out, end, n as u64 + 8192 * (x as u64 + 8192 * issuer));
+    let literal = prepend(out, third, t.literal);
     prepend(out, literal, match_word(t, m, c, l, next))
 }
 

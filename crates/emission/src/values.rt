@@ -24,7 +24,7 @@ pub const TESTS: u64 = 3;
 
 // A piece of one number, made of which it is and of a field.
 pub fn piece(out: &mut [u64], end: usize, which: u64, field: u64) -> usize
-    requires { ⌜ (0 < end) × (which < 4) × (field < 4294967296) ⌝ }
+    requires { ⌜ (0 < end) × (which < 4) × (field < 281474976710656) ⌝ }
     ensures { λ r. ⌜ Wrote ((12 + 16 * (which + 4 * field)) ∷ []) end (now (out .entry)) (now (out .exit)) r ⌝ }
 {
     prepend(out, end, SUM + 16 * (which + 4 * field))
@@ -45,7 +45,7 @@ fn attribute(book: &[u8], i: usize, out: &mut [u64], end: usize) -> usize
     ensures { λ r. ⌜ Emitted (sum (asks (keyAt (now (book .entry)) i)) ∷ []) end (now (out .entry)) (now (out .exit)) r ⌝ }
 {
     let key = weigh::key_at(book, i);
-    piece(out, end, ASKS, key as u64)
+    piece(out, end, ASKS, key)
 }
 
 // The number of an operator.

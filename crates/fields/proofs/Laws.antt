@@ -77,19 +77,27 @@ zeros-one b i a =
     let z : a + 0 ≡ a = omega arith in
     rw (e, z)
 
--- the bytes from 8 on as a number y
+-- the bytes from 8 on, those from 16 on, and those behind the issuer, as numbers
 module _ (b : List ℕ) (i : ℕ) {y : ℕ} (ey : y ≡ bigOf b (i * size + 8) 8) where
-  back : zeros b i 8 size ≡ eqb y 0
-  back = rw (zeros-big b i 8 size, ← ey)
+  pub back-front : (y ≡ 0 → ⊥) → false ≡ zeros b i 8 size
+  back-front n = rw (zeros-split b i 8 8 (size - 16), zeros-big b i 8 16, ← ey, ne-eqb y 0 n)
 
-  from-4 : {x : ℕ} → x ≡ bigOf b (i * size + 4) 4 → zeros b i 4 size ≡ both (eqb x 0) (eqb y 0)
-  from-4 ex = rw (zeros-split b i 4 4 8, back, zeros-big b i 4 8, ← ex)
+  pub back-rest : y ≡ 0 → {z : ℕ} → z ≡ bigOf b (i * size + 16) 4 → eqb z 0 ≡ zeros b i 8 size
+  back-rest e ez = rw (zeros-split b i 8 8 (size - 16), zeros-big b i 8 16, zeros-big b i 16 size, ← ey, ← ez, eq-eqb y 0 e)
 
-  from-5 : {w x : ℕ} → w ≡ byteOf b i 5 → x ≡ bigOf b (i * size + 6) 2 → zeros b i 5 size ≡ both (eqb w 0) (both (eqb x 0) (eqb y 0))
-  from-5 ew ex = rw (zeros-split b i 5 1 10, zeros-one b i 5, zeros-split b i 6 2 8, back, zeros-big b i 6 8, ← ew, ← ex)
+pub end-is : (b : List ℕ) (i : ℕ) {z : ℕ} → z ≡ bigOf b (i * size + 18) 2 → eqb z 0 ≡ zeros b i 18 size
+end-is b i ez = rw (zeros-big b i 18 size, ← ez)
 
-  but-6 : {x : ℕ} → x ≡ bigOf b (i * size + 4) 2 → both (zeros b i 4 6) (zeros b i 8 size) ≡ both (eqb x 0) (eqb y 0)
-  but-6 ex = rw (back, zeros-big b i 4 6, ← ex)
+-- what stands before them
+module _ (b : List ℕ) (i : ℕ) where
+  from-4 : {x : ℕ} → x ≡ bigOf b (i * size + 4) 4 → zeros b i 4 size ≡ both (eqb x 0) (zeros b i 8 size)
+  from-4 ex = rw (zeros-split b i 4 4 (size - 8), zeros-big b i 4 8, ← ex)
+
+  from-5 : {w x : ℕ} → w ≡ byteOf b i 5 → x ≡ bigOf b (i * size + 6) 2 → zeros b i 5 size ≡ both (eqb w 0) (both (eqb x 0) (zeros b i 8 size))
+  from-5 ew ex = rw (zeros-split b i 5 1 (size - 6), zeros-one b i 5, zeros-split b i 6 2 (size - 8), zeros-big b i 6 8, ← ew, ← ex)
+
+  but-6 : {x : ℕ} → x ≡ bigOf b (i * size + 4) 2 → both (zeros b i 4 6) (zeros b i 8 size) ≡ both (eqb x 0) (zeros b i 8 size)
+  but-6 ex = rw (zeros-big b i 4 6, ← ex)
 
 -- a record that uses no byte but kind, choice and span
 module _ (b : List ℕ) (i s : ℕ) {t : ℕ} (et : t ≡ spanOf b i) where
@@ -100,11 +108,11 @@ module _ (b : List ℕ) (i s : ℕ) {t : ℕ} (et : t ≡ spanOf b i) where
   module _ (h : s ≤ t) {x : ℕ} (ex : x ≡ bigOf b (i * size + 4) 4) where
     pub plain-front : (x ≡ 0 → ⊥) → false ≡ plainOk b i s
     unfolding plainOk
-    plain-front n = rw (← et, le-leb s t h, from-4 b i refl ex, ne-eqb x 0 n)
+    plain-front n = rw (← et, le-leb s t h, from-4 b i ex, ne-eqb x 0 n)
 
-    pub plain-rest : x ≡ 0 → {y : ℕ} → y ≡ bigOf b (i * size + 8) 8 → eqb y 0 ≡ plainOk b i s
+    pub plain-rest : x ≡ 0 → {y : Bool} → y ≡ zeros b i 8 size → y ≡ plainOk b i s
     unfolding plainOk
-    plain-rest e ey = rw (← et, le-leb s t h, from-4 b i ey ex, eq-eqb x 0 e)
+    plain-rest e ey = rw (← et, le-leb s t h, from-4 b i ex, eq-eqb x 0 e) ey
 
 -- a section
 module _ (b : List ℕ) (i : ℕ) {t : ℕ} (et : t ≡ spanOf b i) where
@@ -120,16 +128,16 @@ module _ (b : List ℕ) (i : ℕ) {t : ℕ} (et : t ≡ spanOf b i) where
     module _ (q : u ≡ true) {w : ℕ} (ew : w ≡ byteOf b i 5) where
       pub section-type : (w ≡ 0 → ⊥) → false ≡ sectionOk b i
       unfolding sectionOk
-      section-type n = rw (← et, le-leb 2 t h, ← ec, ← eu, q, from-5 b i refl ew refl, ne-eqb w 0 n)
+      section-type n = rw (← et, le-leb 2 t h, ← ec, ← eu, q, from-5 b i ew refl, ne-eqb w 0 n)
 
       module _ (e : w ≡ 0) {x : ℕ} (ex : x ≡ bigOf b (i * size + 6) 2) where
         pub section-name : (x ≡ 0 → ⊥) → false ≡ sectionOk b i
         unfolding sectionOk
-        section-name n = rw (← et, le-leb 2 t h, ← ec, ← eu, q, from-5 b i refl ew ex, eq-eqb w 0 e, ne-eqb x 0 n)
+        section-name n = rw (← et, le-leb 2 t h, ← ec, ← eu, q, from-5 b i ew ex, eq-eqb w 0 e, ne-eqb x 0 n)
 
-        pub section-rest : x ≡ 0 → {y : ℕ} → y ≡ bigOf b (i * size + 8) 8 → eqb y 0 ≡ sectionOk b i
+        pub section-rest : x ≡ 0 → {y : Bool} → y ≡ zeros b i 8 size → y ≡ sectionOk b i
         unfolding sectionOk
-        section-rest z ey = rw (← et, le-leb 2 t h, ← ec, ← eu, q, from-5 b i ey ew ex, eq-eqb w 0 e, eq-eqb x 0 z)
+        section-rest z ey = rw (← et, le-leb 2 t h, ← ec, ← eu, q, from-5 b i ew ex, eq-eqb w 0 e, eq-eqb x 0 z) ey
 
 -- a match or a comparison
 module _ (b : List ℕ) (i f : ℕ) {k : Sort} {t : ℕ} (ek : k ≡ typeAt b i) (et : t ≡ spanOf b i) where
@@ -147,9 +155,14 @@ module _ (b : List ℕ) (i f : ℕ) {k : Sort} {t : ℕ} (ek : k ≡ typeAt b i)
       unfolding comparesOk
       compares-value z = rw (← et, eq-eqb t 1 h, ← ec, ← eu, q, ← ek, ← en, ← ev, z)
 
-      pub compares-rest : v ≡ true → {w : Bool} → w ≡ functionOk k f → w ≡ comparesOk b i f
-      unfolding comparesOk
-      compares-rest z ew = rw (← et, eq-eqb t 1 h, ← ec, ← eu, q, ← ek, ← en, ← ev, z) ew
+      module _ (z : v ≡ true) {w : Bool} (ew : w ≡ functionOk k f) where
+        pub compares-function : w ≡ false → false ≡ comparesOk b i f
+        unfolding comparesOk
+        compares-function p = rw (← et, eq-eqb t 1 h, ← ec, ← eu, q, ← ek, ← en, ← ev, z, ← ew, p)
+
+        pub compares-rest : w ≡ true → {y : Bool} → y ≡ zeros b i 18 size → y ≡ comparesOk b i f
+        unfolding comparesOk
+        compares-rest p ey = rw (← et, eq-eqb t 1 h, ← ec, ← eu, q, ← ek, ← en, ← ev, z, ← ew, p) ey
 
 -- an obligation
 module _ (b : List ℕ) (i : ℕ) {t : ℕ} (et : t ≡ spanOf b i) where
@@ -160,11 +173,11 @@ module _ (b : List ℕ) (i : ℕ) {t : ℕ} (et : t ≡ spanOf b i) where
   module _ (h : t ≡ 1) {x : ℕ} (ex : x ≡ bigOf b (i * size + 4) 2) where
     pub obligation-front : (x ≡ 0 → ⊥) → false ≡ obligationOk b i
     unfolding obligationOk
-    obligation-front n = rw (← et, eq-eqb t 1 h, but-6 b i refl ex, ne-eqb x 0 n)
+    obligation-front n = rw (← et, eq-eqb t 1 h, but-6 b i ex, ne-eqb x 0 n)
 
-    pub obligation-rest : x ≡ 0 → {y : ℕ} → y ≡ bigOf b (i * size + 8) 8 → eqb y 0 ≡ obligationOk b i
+    pub obligation-rest : x ≡ 0 → {y : Bool} → y ≡ zeros b i 8 size → y ≡ obligationOk b i
     unfolding obligationOk
-    obligation-rest e ey = rw (← et, eq-eqb t 1 h, but-6 b i ey ex, eq-eqb x 0 e)
+    obligation-rest e ey = rw (← et, eq-eqb t 1 h, but-6 b i ex, eq-eqb x 0 e) ey
 
 -- a literal
 module _ (b : List ℕ) (i : ℕ) {t : ℕ} (et : t ≡ spanOf b i) where
@@ -182,9 +195,15 @@ module _ (b : List ℕ) (i : ℕ) {t : ℕ} (et : t ≡ spanOf b i) where
       unfolding literalOk
       literal-value q = rw (← et, eq-eqb t 1 h, zeros-one b i 4, ← ew, eq-eqb w 0 z, ← ec, ← ek, ← en, ← ev, q)
 
-      pub literal-rest : v ≡ true → {x : ℕ} → x ≡ bigOf b (i * size + 6) 2 → eqb x 0 ≡ literalOk b i
-      unfolding literalOk
-      literal-rest q ex = rw (← et, eq-eqb t 1 h, zeros-one b i 4, ← ew, eq-eqb w 0 z, ← ec, ← ek, ← en, ← ev, q, zeros-big b i 6 8, ← ex)
+      module _ (q : v ≡ true) {x : ℕ} (ex : x ≡ bigOf b (i * size + 6) 2) where
+        pub literal-name : (x ≡ 0 → ⊥) → false ≡ literalOk b i
+        unfolding literalOk
+        literal-name m = rw (← et, eq-eqb t 1 h, zeros-one b i 4, ← ew, eq-eqb w 0 z, ← ec, ← ek, ← en, ← ev, q, zeros-big b i 6 8, ← ex, ne-eqb x 0 m)
+
+        pub literal-rest : x ≡ 0 → {y : ℕ} → y ≡ bigOf b (i * size + 16) 4 → eqb y 0 ≡ literalOk b i
+        unfolding literalOk
+        literal-rest e ey =
+            rw (← et, eq-eqb t 1 h, zeros-one b i 4, ← ew, eq-eqb w 0 z, ← ec, ← ek, ← en, ← ev, q, zeros-big b i 6 8, ← ex, eq-eqb x 0 e, zeros-big b i 16 size, ← ey)
 
 -- an attribute
 module _ (b : List ℕ) (i : ℕ) {t : ℕ} (et : t ≡ spanOf b i) where
@@ -202,9 +221,14 @@ module _ (b : List ℕ) (i : ℕ) {t : ℕ} (et : t ≡ spanOf b i) where
       unfolding attributeOk
       attribute-value z = rw (← et, eq-eqb t 1 h, ← ec, ← eu, q, ← ek, ← ev, z)
 
-      pub attribute-rest : v ≡ true → {y : ℕ} → y ≡ bigOf b (i * size + 8) 8 → eqb y 0 ≡ attributeOk b i
-      unfolding attributeOk
-      attribute-rest z ey = rw (← et, eq-eqb t 1 h, ← ec, ← eu, q, ← ek, ← ev, z, back b i ey)
+      module _ (z : v ≡ true) {x : ℕ} (ex : x ≡ bigOf b (i * size + 8) 8) where
+        pub attribute-back : (x ≡ 0 → ⊥) → false ≡ attributeOk b i
+        unfolding attributeOk
+        attribute-back m = rw (← et, eq-eqb t 1 h, ← ec, ← eu, q, ← ek, ← ev, z, zeros-big b i 8 16, ← ex, ne-eqb x 0 m)
+
+        pub attribute-rest : x ≡ 0 → {y : Bool} → y ≡ zeros b i 18 size → y ≡ attributeOk b i
+        unfolding attributeOk
+        attribute-rest e ey = rw (← et, eq-eqb t 1 h, ← ec, ← eu, q, ← ek, ← ev, z, zeros-big b i 8 16, ← ex, eq-eqb x 0 e) ey
 
 -- an entry of a request
 module _ (q : List ℕ) (i : ℕ) {c : ℕ} {u : Bool} (ec : c ≡ byteOf q i 0) (eu : u ≡ categoryOk c) where
@@ -217,9 +241,14 @@ module _ (q : List ℕ) (i : ℕ) {c : ℕ} {u : Bool} (ec : c ≡ byteOf q i 0)
     unfolding entryOk
     entry-value z = rw (← ec, ← eu, h, ← et, ← ek, ← en, ← ev, z)
 
-    pub entry-rest : v ≡ true → {x : ℕ} → x ≡ bigOf q (i * size + 4) 4 → eqb x 0 ≡ entryOk q i
-    unfolding entryOk
-    entry-rest z ex = rw (← ec, ← eu, h, ← et, ← ek, ← en, ← ev, z, zeros-big q i 4 8, ← ex)
+    module _ (z : v ≡ true) {x : ℕ} (ex : x ≡ bigOf q (i * size + 4) 4) where
+      pub entry-front : (x ≡ 0 → ⊥) → false ≡ entryOk q i
+      unfolding entryOk
+      entry-front m = rw (← ec, ← eu, h, ← et, ← ek, ← en, ← ev, z, zeros-big q i 4 8, ← ex, ne-eqb x 0 m)
+
+      pub entry-rest : x ≡ 0 → {y : Bool} → y ≡ zeros q i 18 size → y ≡ entryOk q i
+      unfolding entryOk
+      entry-rest e ey = rw (← ec, ← eu, h, ← et, ← ek, ← en, ← ev, z, zeros-big q i 4 8, ← ex, eq-eqb x 0 e) ey
 
 -- obligation records, counted one by one
 pub obligations-none : (b : List ℕ) → 0 ≡ obligationsOf b 0

@@ -74,13 +74,14 @@ plainOk b i s = both (leb s (spanOf b i)) (zeros b i 4 size)
 unfoldable pub sectionOk : List ℕ → ℕ → Bool
 sectionOk b i = both (leb 2 (spanOf b i)) (both (categoryOk (byteOf b i 4)) (zeros b i 5 size))
 
--- a match or a comparison by function f: nothing below it; it uses bytes 4 to 15
+-- a match or a comparison by function f: nothing below it; it uses bytes 4 to 17
 unfoldable pub comparesOk : List ℕ → ℕ → ℕ → Bool
 comparesOk b i f =
     both (eqb (spanOf b i) 1)
     (both (categoryOk (byteOf b i 4))
     (both (valueOk (typeAt b i) (finite b i))
-    (functionOk (typeAt b i) f)))
+    (both (functionOk (typeAt b i) f)
+    (zeros b i 18 size))))
 
 -- an obligation: nothing below it; it uses bytes 6 and 7
 unfoldable pub obligationOk : List ℕ → ℕ → Bool
@@ -92,15 +93,17 @@ literalOk b i =
     both (eqb (spanOf b i) 1)
     (both (zeros b i 4 5)
     (both (valueOk (typeOf (byteOf b i 5)) (finite b i))
-    (zeros b i 6 8)))
+    (both (zeros b i 6 8)
+    (zeros b i 16 size))))
 
--- an attribute: nothing below it; it uses bytes 4 to 7
+-- an attribute: nothing below it; it uses bytes 4 to 7, and 16 and 17
 unfoldable pub attributeOk : List ℕ → ℕ → Bool
 attributeOk b i =
     both (eqb (spanOf b i) 1)
     (both (categoryOk (byteOf b i 4))
     (both (valueOk (typeAt b i) true)
-    (zeros b i 8 size)))
+    (both (zeros b i 8 16)
+    (zeros b i 18 size))))
 
 -- the field rules of record i, by what it is
 abbrev pub rulesOf : List ℕ → ℕ → Kind → Bool

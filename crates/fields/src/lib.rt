@@ -12,7 +12,7 @@ ghost use lib.ListN.{length};
 ghost use Rattle.record.specs.Choose.{if, among};
 ghost use Rattle.record.specs.Bytes.{size};
 ghost use Rattle.fields.specs.First.{firstFrom};
-ghost use Rattle.fields.specs.Fields.{kindOf, kindAt, categoryOk, typeOf, typeAt, finite, valueOk, functionOk, plainOk, sectionOk, comparesOk, obligationOk, literalOk, attributeOk, rulesOf, fieldOk, obligationsOf};
+ghost use Rattle.fields.specs.Fields.{kindOf, kindAt, categoryOk, typeOf, typeAt, finite, valueOk, functionOk, zeros, plainOk, sectionOk, comparesOk, obligationOk, literalOk, attributeOk, rulesOf, fieldOk, obligationsOf};
 ghost use Rattle.fields.specs.Entries.{entryOk};
 ghost use Rattle.fields.specs.declared.Kind.the-variants.{Comparison, Weighing, Nothing};
 
@@ -155,6 +155,25 @@ fn function_ok(t: Sort, f: usize) -> bool
     }
 }
 
+// Whether the bytes of record i from 8 on are zero.
+fn back_zero(book: &[u8], i: usize) -> bool
+    requires { ⌜ (i + 1) * size ≤ length (now book) ⌝ }
+    ensures { λ r. ⌜ r ≡ zeros (now (book .entry)) i 8 size ⌝ }
+{
+    if big8(book, i * SIZE + 8) != 0 {
+        return false;
+    }
+    big4(book, i * SIZE + 16) == 0
+}
+
+// Whether the bytes of record i behind its issuer are zero.
+fn end_zero(book: &[u8], i: usize) -> bool
+    requires { ⌜ (i + 1) * size ≤ length (now book) ⌝ }
+    ensures { λ r. ⌜ r ≡ zeros (now (book .entry)) i 18 size ⌝ }
+{
+    big2(book, i * SIZE + 18) == 0
+}
+
 // A record that uses no byte but kind, choice and span, the span being at least s.
 pub fn plain_ok(book: &[u8], i: usize, s: usize) -> bool
     requires { ⌜ (i + 1) * size ≤ length (now book) ⌝ }
@@ -166,7 +185,7 @@ pub fn plain_ok(book: &[u8], i: usize, s: usize) -> bool
     if big4(book, i * SIZE + 4) != 0 {
         return false;
     }
-    big8(book, i * SIZE + 8) == 0
+    back_zero(book, i)
 }
 
 // A section.
@@ -186,7 +205,7 @@ pub fn section_ok(book: &[u8], i: usize) -> bool
     if big2(book, i * SIZE + 6) != 0 {
         return false;
     }
-    big8(book, i * SIZE + 8) == 0
+    back_zero(book, i)
 }
 
 // A match or comparison by function f.
@@ -204,7 +223,10 @@ pub fn compares_ok(book: &[u8], i: usize, f: usize) -> bool
     if !value_ok(t, is_finite(book, i)) {
         return false;
     }
-    function_ok(t, f)
+    if !function_ok(t, f) {
+        return false;
+    }
+    end_zero(book, i)
 }
 
 // An obligation.
@@ -218,7 +240,7 @@ pub fn obligation_ok(book: &[u8], i: usize) -> bool
     if big2(book, i * SIZE + 4) != 0 {
         return false;
     }
-    big8(book, i * SIZE + 8) == 0
+    back_zero(book, i)
 }
 
 // A literal.
@@ -235,7 +257,10 @@ pub fn literal_ok(book: &[u8], i: usize) -> bool
     if !value_ok(type_of(byte(book, i, 5)), is_finite(book, i)) {
         return false;
     }
-    big2(book, i * SIZE + 6) == 0
+    if big2(book, i * SIZE + 6) != 0 {
+        return false;
+    }
+    big4(book, i * SIZE + 16) == 0
 }
 
 // An attribute.
@@ -252,7 +277,10 @@ pub fn attribute_ok(book: &[u8], i: usize) -> bool
     if !value_ok(type_at(book, i), true) {
         return false;
     }
-    big8(book, i * SIZE + 8) == 0
+    if big8(book, i * SIZE + 8) != 0 {
+        return false;
+    }
+    end_zero(book, i)
 }
 
 fn less_ten(c: usize) -> usize
@@ -345,7 +373,10 @@ fn entry_ok(request: &[u8], i: usize) -> bool
     if !value_ok(type_of(byte(request, i, 1)), is_finite(request, i)) {
         return false;
     }
-    big4(request, i * SIZE + 4) == 0
+    if big4(request, i * SIZE + 4) != 0 {
+        return false;
+    }
+    end_zero(request, i)
 }
 
 // The first of n entries that breaks a field rule; n where none does.

@@ -9,6 +9,7 @@ use native.Mathlib.Nat.{add-zero, mod-eq-of-lt}
 use native.Mathlib.Omega.{arith}
 use borrow.Author.Tests.{le-leb, lt-ltb}
 use Rattle.record.proofs.Choose.{no-false}
+use Rattle.meaning.specs.Numbers.{keyNumber, bareOf, issuerOf}
 use Rattle.meaning.specs.declared.Test.{Test}
 use Rattle.meaning.specs.declared.Effect.{Effect}
 use Rattle.layout.specs.Entry.{Piece, loads, asks, works, tests, Entry, begin, match, further, opens, compare, close, sum, rule, enter, applies, conclude, oblige, leave, finish, extra, reach, isFurther, fits}
@@ -16,10 +17,10 @@ use Rattle.layout.specs.Layout.{bitOf, functionCode, operatorCode, effec
 use Rattle.layout.proofs.Coding.{bit-back, bit-small, effect-back, effect-small, op-back, algorithm-back, algorithm-small, function-back, function-small, operator-back, remainder, quotient, digit}
 use Rattle.layout.specs.Room.{roomP}
 
--- the key of a piece is a number of four bytes
+-- the key of a piece is a number of six bytes
 abbrev pub HoldsPiece : Piece → Type 0
 HoldsPiece (loads k n) = Unit
-HoldsPiece (asks key) = key < 4294967296
+HoldsPiece (asks key) = key < 281474976710656
 HoldsPiece (works o) = Unit
 HoldsPiece (tests f k) = Unit
 
@@ -40,9 +41,9 @@ Holds T N (oblige e n) = N n
 Holds T N (leave n) = Unit
 Holds T N finish = Unit
 
--- a key of four bytes, a number of two
+-- a key of six bytes, a number of two
 abbrev pub Key : Test → Type 0
-Key t = t .key < 4294967296
+Key t = t .key < 281474976710656
 
 abbrev pub Short : ℕ → Type 0
 Short n = n < 65536
@@ -89,40 +90,56 @@ test-small : (t : Test) → testWord t < 16
 unfolding testWord
 test-small t = omega (arith, function-small (t .function), bit-small (t .must))
 
-test-back : (t : Test) (n : ℕ) → testOf (testWord t + 16 * n) (t .key) (t .literal) ≡ t
+test-back : (t : Test) (n : ℕ) → testOf (testWord t + 16 * n) (keyNumber (bareOf (t .key)) (issuerOf (t .key))) (t .literal) ≡ t
 unfolding testOf testWord
 test-back t n =
     let f : ℕ = functionCode (t .function) in
     let m : ℕ = bitOf (t .must) in
     let fs = function-small (t .function) in
     let ms = bit-small (t .must) in
-    rw (remainder 8 (f + 8 * m + 16 * n) f (m + 2 * n) (omega arith) (omega arith), digit 8 2 (f + 8 * m + 16 * n) f m n (omega arith) (omega arith) (omega arith), function-back, bit-back)
+    let key : keyNumber (bareOf (t .key)) (issuerOf (t .key)) ≡ t .key = omega arith in
+    rw (key, remainder 8 (f + 8 * m + 16 * n) f (m + 2 * n) (omega arith) (omega arith), digit 8 2 (f + 8 * m + 16 * n) f m n (omega arith) (omega arith) (omega arith), function-back, bit-back)
 
 module _ (t : Test) (key : Key t) where
-  compare-back : (n : ℕ) → compareBy (testWord t + 16 * (t .key + 4294967296 * n)) (t .literal) ≡ compare t n
+  abbrev bare : ℕ
+  bare = bareOf (t .key)
+
+  abbrev issuer : ℕ
+  issuer = issuerOf (t .key)
+
+  four : bare < 4294967296
+  four = omega arith
+
+  two : issuer < 65536
+  two = omega arith
+
+  compare-back : (n : ℕ) → compareBy (testWord t + 16 * (bare + 4294967296 * n)) (t .literal) issuer ≡ compare t n
   unfolding compareBy
   compare-back n =
       let s = test-small t in
-      let w : ℕ = testWord t + 16 * (t .key + 4294967296 * n) in
-      rw (digit 16 4294967296 w (testWord t) (t .key) n refl s key, quotient 68719476736 w (testWord t + 16 * t .key) n (omega arith) (omega arith), test-back)
+      let w : ℕ = testWord t + 16 * (bare + 4294967296 * n) in
+      rw (digit 16 4294967296 w (testWord t) bare n refl s four, quotient 68719476736 w (testWord t + 16 * bare) n (omega arith) (omega (arith, four)), mod-eq-of-lt two, test-back)
 
-  match-back : (m c l : Bool) (i j x : ℕ) → j < 8192
-      → matchBy (testWord t + 16 * (bitOf m + 2 * (bitOf c + 2 * (bitOf l + 2 * (t .key + 4294967296 * i))))) (t .literal) (j + 8192 * x) ≡ match t m c l i j x
+  match-back : (m c l : Bool) (i j x : ℕ) → j < 8192 → x < 8192
+      → matchBy (testWord t + 16 * (bitOf m + 2 * (bitOf c + 2 * (bitOf l + 2 * (bare + 4294967296 * i))))) (t .literal) (j + 8192 * (x + 8192 * issuer)) ≡ match t m c l i j x
   unfolding matchBy
-  match-back m c l i j x h =
+  match-back m c l i j x h k =
       let s = test-small t in
       let ms = bit-small m in
       let cs = bit-small c in
       let ls = bit-small l in
-      let w : ℕ = testWord t + 16 * (bitOf m + 2 * (bitOf c + 2 * (bitOf l + 2 * (t .key + 4294967296 * i)))) in
+      let w : ℕ = testWord t + 16 * (bitOf m + 2 * (bitOf c + 2 * (bitOf l + 2 * (bare + 4294967296 * i)))) in
+      let third : ℕ = j + 8192 * (x + 8192 * issuer) in
       rw (
-        digit 16 2 w (testWord t) (bitOf m) (bitOf c + 2 * (bitOf l + 2 * (t .key + 4294967296 * i))) refl s (omega arith),
-        digit 32 2 w (testWord t + 16 * bitOf m) (bitOf c) (bitOf l + 2 * (t .key + 4294967296 * i)) (omega arith) (omega arith) (omega arith),
-        digit 64 2 w (testWord t + 16 * bitOf m + 32 * bitOf c) (bitOf l) (t .key + 4294967296 * i) (omega arith) (omega arith) (omega arith),
-        digit 128 4294967296 w (testWord t + 16 * bitOf m + 32 * bitOf c + 64 * bitOf l) (t .key) i (omega arith) (omega arith) key,
-        quotient 549755813888 w (testWord t + 16 * bitOf m + 32 * bitOf c + 64 * bitOf l + 128 * t .key) i (omega arith) (omega arith),
-        remainder 8192 (j + 8192 * x) j x refl h,
-        quotient 8192 (j + 8192 * x) j x refl h,
+        digit 16 2 w (testWord t) (bitOf m) (bitOf c + 2 * (bitOf l + 2 * (bare + 4294967296 * i))) refl s (omega arith),
+        digit 32 2 w (testWord t + 16 * bitOf m) (bitOf c) (bitOf l + 2 * (bare + 4294967296 * i)) (omega arith) (omega arith) (omega arith),
+        digit 64 2 w (testWord t + 16 * bitOf m + 32 * bitOf c) (bitOf l) (bare + 4294967296 * i) (omega arith) (omega arith) (omega arith),
+        digit 128 4294967296 w (testWord t + 16 * bitOf m + 32 * bitOf c + 64 * bitOf l) bare i (omega arith) (omega arith) four,
+        quotient 549755813888 w (testWord t + 16 * bitOf m + 32 * bitOf c + 64 * bitOf l + 128 * bare) i (omega arith) (omega (arith, four)),
+        remainder 8192 third j (x + 8192 * issuer) refl h,
+        digit 8192 8192 third j x issuer refl h k,
+        quotient 67108864 third (j + 8192 * x) issuer (omega arith) (omega arith),
+        mod-eq-of-lt two,
         bit-back m,
         bit-back c,
         bit-back l,
@@ -168,10 +185,11 @@ read-back (begin al c) ns h g l =
     let s = algorithm-small al in
     let z : 16 * k ≡ 0 + 16 * k = omega arith in
     rw (z, by-op 0 k (getD ns 0 0) (getD ns 1 0) (omega arith), remainder 8 k (algorithmCode al) c refl (omega arith), quotient 8 k (algorithmCode al) c refl (omega arith), algorithm-back)
-read-back (match t m c s i j x) ns h g l = by-op 1 _ (t .literal) (j + 8192 * x) (omega arith) ∙ match-back t g m c s i j x (omega (arith, l))
+read-back (match t m c s i j x) ns h g l =
+    by-op 1 _ (t .literal) (j + 8192 * (x + 8192 * issuerOf (t .key))) (omega arith) ∙ match-back t g m c s i j x (omega (arith, l)) (omega (arith, l))
 read-back further ns h g l = no-false (sym h)
 read-back (opens op) ns h g l = by-op 3 (opCode op) (getD ns 0 0) (getD ns 1 0) (omega arith) ∙ ap opens (op-back op)
-read-back (compare t n) ns h g l = by-op 2 _ (t .literal) (getD ns 0 0) (omega arith) ∙ compare-back t g n
+read-back (compare t n) ns h g l = by-op 13 _ (t .literal) (issuerOf (t .key)) (omega arith) ∙ compare-back t g n
 read-back (close n) ns h g l = by-op 4 n (getD ns 0 0) (getD ns 1 0) (omega arith)
 read-back (sum p) ns h g l = piece-back p ns g
 read-back (rule e n) ns h g l = by-op 5 (effectCode e + 2 * n) (getD ns 0 0) (getD ns 1 0) (omega arith) ∙ rw (effect-of, number-of)

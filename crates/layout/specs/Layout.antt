@@ -11,7 +11,7 @@ use Rattle.value.specs.declared.Function.the-variants.{Equal, Greater, GreaterO
 use Rattle.sums.specs.declared.Operator.{Operator}
 use Rattle.sums.specs.declared.Operator.the-variants.{Add, Subtract, Multiply, Divide, Remainder, DoubleAdd}
 use Rattle.sums.specs.declared.Status.the-variants.{Missing, Processing}
-use Rattle.meaning.specs.Numbers.{statusNumber}
+use Rattle.meaning.specs.Numbers.{statusNumber, keyNumber, bareOf, issuerOf}
 use Rattle.meaning.specs.declared.Test.{Test}
 use Rattle.meaning.specs.declared.Truth.{Truth}
 use Rattle.meaning.specs.declared.Truth.the-variants.{True, False, Unknown}
@@ -211,32 +211,32 @@ allowed n =
     (both (leb (unpackOf n .permits) roomP)
     (leb (unpackOf n .cut + unpackOf n .denies) roomP))))
 
--- an entry by its number: 4 bits what it is, then its fields; a match, a comparison and a literal have the literal in the next number, a match the
--- ways to the next section and out of the target in the one after
+-- an entry by its number: 4 bits what it is, then its fields; a match, a comparison and a literal have the literal in the next number; the one after
+-- has a match's ways to the next section and out of the target, and the issuer of a match or a comparison
 unfoldable pub testOf : ℕ → ℕ → ℕ → Test
 testOf n key literal = record { function = functionOf (n % 8); must = eqb (n / 8 % 2) 1; key = key; literal = literal }
 
 unfoldable pub matchBy : ℕ → ℕ → ℕ → Entry
 matchBy n literal ways =
-    match (testOf n (n / 128 % 4294967296) literal) (eqb (n / 16 % 2) 1) (eqb (n / 32 % 2) 1) (eqb (n / 64 % 2) 1)
-    (n / 549755813888) (ways % 8192) (ways / 8192)
+    match (testOf n (keyNumber (n / 128 % 4294967296) (ways / 67108864 % 65536)) literal) (eqb (n / 16 % 2) 1) (eqb (n / 32 % 2) 1) (eqb (n / 64 % 2) 1)
+    (n / 549755813888) (ways % 8192) (ways / 8192 % 8192)
 
-unfoldable pub compareBy : ℕ → ℕ → Entry
-compareBy n literal = compare (testOf n (n / 16 % 4294967296) literal) (n / 68719476736)
+unfoldable pub compareBy : ℕ → ℕ → ℕ → Entry
+compareBy n literal issuer = compare (testOf n (keyNumber (n / 16 % 4294967296) (issuer % 65536)) literal) (n / 68719476736)
 
 -- a piece of a comparison of two values: 2 bits which; a literal its type, an attribute its key, an operator its number, the comparison its function
 -- and type
 unfoldable pub pieceBy : ℕ → ℕ → ℕ → Piece
 pieceBy which n literal =
     if (eqb which 0) (loads n literal)
-    (if (eqb which 1) (asks (n % 4294967296))
+    (if (eqb which 1) (asks (n % 281474976710656))
     (if (eqb which 2) (works (operatorBy n)) (tests (functionOf (n % 8)) (n / 8))))
 
+-- 2 was a comparison of two numbers, before there were issuers
 unfoldable pub entryBy : ℕ → ℕ → ℕ → ℕ → Entry
-entryBy op n literal ways =
+entryBy op n literal third =
     if (eqb op 0) (begin (algorithmBy (n % 8)) (n / 8))
-    (if (eqb op 1) (matchBy n literal ways)
-    (if (eqb op 2) (compareBy n literal)
+    (if (eqb op 1) (matchBy n literal third)
     (if (eqb op 3) (opens (opBy n))
     (if (eqb op 4) (close n)
     (if (eqb op 5) (rule (effectBy (n % 2)) (n / 2))
@@ -246,10 +246,11 @@ entryBy op n literal ways =
     (if (eqb op 9) (oblige (effectBy (n % 2)) (n / 2))
     (if (eqb op 10) (leave n)
     (if (eqb op 11) finish
-    (if (eqb op 12) (sum (pieceBy (n % 4) (n / 4) literal)) further))))))))))))
+    (if (eqb op 12) (sum (pieceBy (n % 4) (n / 4) literal))
+    (if (eqb op 13) (compareBy n literal third) further))))))))))))
 
 unfoldable pub entryOf : ℕ → ℕ → ℕ → Entry
-entryOf w literal ways = entryBy (w % 16) (w / 16) literal ways
+entryOf w literal third = entryBy (w % 16) (w / 16) literal third
 
 -- the entry that stands at a place of a programme
 unfoldable pub fetch : List ℕ → ℕ → Entry
@@ -268,13 +269,13 @@ pieceWords (tests f k) = (12 + 16 * (3 + 4 * (functionCode f + 8 * k))) ∷ []
 unfoldable pub wordsOf : Entry → List ℕ
 wordsOf (begin al c) = 16 * (algorithmCode al + 8 * c) ∷ []
 wordsOf (match t m c s i j x) =
-    (1 + 16 * (testWord t + 16 * (bitOf m + 2 * (bitOf c + 2 * (bitOf s + 2 * (t .key + 4294967296 * i))))))
+    (1 + 16 * (testWord t + 16 * (bitOf m + 2 * (bitOf c + 2 * (bitOf s + 2 * (bareOf (t .key) + 4294967296 * i))))))
     ∷ t .literal
-    ∷ (j + 8192 * x)
+    ∷ (j + 8192 * (x + 8192 * issuerOf (t .key)))
     ∷ []
 wordsOf further = []
 wordsOf (opens op) = (3 + 16 * opCode op) ∷ []
-wordsOf (compare t n) = (2 + 16 * (testWord t + 16 * (t .key + 4294967296 * n))) ∷ t .literal ∷ []
+wordsOf (compare t n) = (13 + 16 * (testWord t + 16 * (bareOf (t .key) + 4294967296 * n))) ∷ t .literal ∷ issuerOf (t .key) ∷ []
 wordsOf (close n) = (4 + 16 * n) ∷ []
 wordsOf (sum p) = pieceWords p
 wordsOf (rule e n) = (5 + 16 * (effectCode e + 2 * n)) ∷ []

@@ -18,7 +18,7 @@ use Rattle.sums.specs.declared.Worth.the-variants.{Is, Lost}
 use Rattle.meaning.specs.Numbers.{keyBy, keyOf, valueUnder, literalOf}
 use Rattle.meaning.specs.Policy.{Key, Expr, literal, attribute, operate}
 use Rattle.meaning.specs.Meaning.{Bags, gives, comparisonIn, comparisonOf, theOnly, operated, typeOf, worth, weighed, conditionOf}
-use Rattle.meaning.specs.Reading.{bagFrom, bagsOf, keyIn, sameKey}
+use Rattle.meaning.specs.Reading.{bagFrom, bagsOf, keyIn, takes}
 use Rattle.meaning.specs.Typed.{Typed, All, Fair, RequestsAreFair, WorthIsTyped, operatedPlain, weighedPlain, OperatesPlainly, WeighsPlainly, ComparesAsWeighed}
 
 -- requests
@@ -33,7 +33,7 @@ eight b at h =
 from-fair : (q : List ℕ) → Bytes q → (key : Key) (left k : ℕ) → All (key .type) (bagFrom q key left k)
 unfolding bagFrom All
 from-fair q h key zero k = tt
-from-fair q h key (suc left) k = go (sameKey (keyIn q k) key) (from-fair q h key left (k + 1))
+from-fair q h key (suc left) k = go (takes key (keyIn q k)) (from-fair q h key left (k + 1))
   where
     n : ℕ
     n = bigOf q (k * size + 8) 8

@@ -13,7 +13,7 @@ use Rattle.value.specs.declared.Value.{Value}
 use Rattle.sums.specs.Sums.{kindOf}
 use Rattle.sums.specs.declared.Operator.{Operator}
 use Rattle.sums.specs.declared.Operator.the-variants.{Add, Subtract, Multiply, Divide, Remainder, DoubleAdd}
-use Rattle.meaning.specs.Numbers.{keyBy, valueUnder}
+use Rattle.meaning.specs.Numbers.{keyNumber, keyBy, valueUnder}
 use Rattle.meaning.specs.Policy.{Key, Some, last, more, Conjunction, Section, Target, Expr, literal, attribute, operate, Condition, compares, weighs, all, any, not, Conditions, noPart, part, When, always, whenever, Rule, Obligation, OverRules, rulesDeny, rulesPermit, rulesFirst, OverPolicies, policiesDeny, policiesPermit, policiesFirst, policiesOnlyOne, Tree, policy, set, Trees, noTree, tree}
 use Rattle.meaning.specs.Meaning.{Bags}
 use Rattle.meaning.specs.declared.Test.{Test}
@@ -31,9 +31,16 @@ isParty b i = either (isKind b i 1) (isKind b i 2)
 abbrev pub choiceAt : List ℕ → ℕ → ℕ
 choiceAt b i = byteOf b i 1
 
--- the key of record i: byte 4 category, 5 type (without must-be-present), 6-7 identifier
+-- the issuer that record or entry i names, bytes 16-17
+abbrev pub issuerAt : List ℕ → ℕ → ℕ
+issuerAt b i = bigOf b (i * size + 16) 2
+
+-- the key of record i: byte 4 category, 5 type (without must-be-present), 6-7 identifier, and its issuer
+abbrev pub bareAt : List ℕ → ℕ → ℕ
+bareAt b i = byteOf b i 4 * 16777216 + byteOf b i 5 % 128 * 65536 + byteOf b i 6 * 256 + byteOf b i 7
+
 unfoldable pub keyAt : List ℕ → ℕ → ℕ
-keyAt b i = byteOf b i 4 * 16777216 + byteOf b i 5 % 128 * 65536 + byteOf b i 6 * 256 + byteOf b i 7
+keyAt b i = keyNumber (bareAt b i) (issuerAt b i)
 
 -- record i as a test by function f; add 128 to byte 5 for must-be-present
 unfoldable pub testAt : List ℕ → ℕ → ℕ → Test
@@ -169,18 +176,27 @@ treesIn b (node i kids rest) =
 unfoldable pub bookOf : List ℕ → Tree
 bookOf b = let kids = forest b 1 (length b / size - 1) in treeAt b 0 kids (treesIn b kids)
 
--- the key of entry k: byte 0 category, 1 type, 2-3 identifier
+-- the key of entry k: byte 0 category, 1 type, 2-3 identifier, and its issuer
 abbrev pub keyIn : List ℕ → ℕ → Key
-keyIn q k = keyBy (bigOf q (k * size) 4)
+keyIn q k = keyBy (keyNumber (bigOf q (k * size) 4) (issuerAt q k))
 
-abbrev pub sameKey : Key → Key → Bool
-sameKey a b = both (eqb (a .category) (b .category)) (both (eqb (a .identifier) (b .identifier)) (eqb (a .type) (b .type)))
+-- issuer 0 takes any, otherwise issuers must be equal
+abbrev pub takesIssuer : ℕ → ℕ → Bool
+takesIssuer asked given = either (eqb asked 0) (eqb asked given)
 
--- the values of the key among `left` entries from k on: bytes 8-15 are the value
+-- what is asked for takes what an entry holds: category, identifier and type are the same, and it takes the issuer
+abbrev pub takes : Key → Key → Bool
+takes asked given =
+    both (eqb (asked .category) (given .category))
+    (both (eqb (asked .identifier) (given .identifier))
+    (both (eqb (asked .type) (given .type))
+    (takesIssuer (asked .issuer) (given .issuer))))
+
+-- the values that the key takes among `left` entries from k on: bytes 8-15 are the value
 unfoldable pub bagFrom : List ℕ → Key → ℕ → ℕ → List Value
 bagFrom q key zero k = []
 bagFrom q key (suc left) k =
-    if (sameKey (keyIn q k) key) (valueUnder key (bigOf q (k * size + 8) 8) ∷ []) [] ++ bagFrom q key left (k + 1)
+    if (takes key (keyIn q k)) (valueUnder key (bigOf q (k * size + 8) 8) ∷ []) [] ++ bagFrom q key left (k + 1)
 
 unfoldable pub bagsOf : List ℕ → Bags
 bagsOf q key = bagFrom q key (length q / size) 0

@@ -15,7 +15,7 @@ use Rattle.layout.specs.declared.Head.{Head}
 use Rattle.moves.specs.declared.Move.{Move}
 use Rattle.programme.specs.declared.Met.{Met}
 use Rattle.programme.specs.declared.Met.the-variants.{Outside, Does}
-use Rattle.layout.specs.Entry.{Entry, further, extra, reach, fits, lawful}
+use Rattle.layout.specs.Entry.{Entry, extra, reach, fits, lawful}
 use Rattle.moves.specs.Core.{core, finished}
 use Rattle.layout.specs.Layout.{matchBy, compareBy, entryBy, entryOf, fetch}
 use Rattle.moves.specs.Moves.{moveOf}
@@ -53,25 +53,25 @@ module _ (long at : ℕ) where
   unfolding lawful
   lawful-beyond e a = let k : long < at + suc (reach e) = omega arith in rw (lt-leb (at + suc (reach e)) long k, both-false (fits e))
 
-  pub compare-lawful : (n literal : ℕ) → lawful long at (compareBy n literal) ≡ leb (at + 1 + suc (n / 68719476736)) long
+  pub compare-lawful : (n literal issuer : ℕ) → lawful long at (compareBy n literal issuer) ≡ leb (at + 2 + suc (n / 68719476736)) long
   unfolding lawful compareBy
-  compare-lawful n literal = let k : at + suc (1 + n / 68719476736) ≡ at + 1 + suc (n / 68719476736) = omega arith in rw k
+  compare-lawful n literal issuer = let k : at + suc (2 + n / 68719476736) ≡ at + 2 + suc (n / 68719476736) = omega arith in rw k
 
-  pub compare-short : (n literal : ℕ) → long < at + 2 → lawful long at (compareBy n literal) ≡ false
-  compare-short n literal a = compare-lawful n literal ∙ lt-leb (at + 1 + suc (n / 68719476736)) long (omega arith)
+  pub compare-short : (n literal issuer : ℕ) → long < at + 3 → lawful long at (compareBy n literal issuer) ≡ false
+  compare-short n literal issuer a = compare-lawful n literal issuer ∙ lt-leb (at + 2 + suc (n / 68719476736)) long (omega arith)
 
-  pub match-lawful : (n literal ways : ℕ)
-      → lawful long at (matchBy n literal ways) ≡ leb (at + 2 + suc (max (n / 549755813888) (max (ways % 8192) (ways / 8192)))) long
+  pub match-lawful : (n literal third : ℕ)
+      → lawful long at (matchBy n literal third) ≡ leb (at + 2 + suc (max (n / 549755813888) (max (third % 8192) (third / 8192 % 8192)))) long
   unfolding lawful matchBy
-  match-lawful n literal ways =
-      let far : ℕ = max (n / 549755813888) (max (ways % 8192) (ways / 8192)) in
+  match-lawful n literal third =
+      let far : ℕ = max (n / 549755813888) (max (third % 8192) (third / 8192 % 8192)) in
       let k : at + suc (2 + far) ≡ at + 2 + suc far = omega arith in
       rw k
 
-  pub match-short : (n literal ways : ℕ) → long < at + 3 → lawful long at (matchBy n literal ways) ≡ false
-  match-short n literal ways a =
-      let far : ℕ = max (n / 549755813888) (max (ways % 8192) (ways / 8192)) in
-      match-lawful n literal ways ∙ lt-leb (at + 2 + suc far) long (omega arith)
+  pub match-short : (n literal third : ℕ) → long < at + 3 → lawful long at (matchBy n literal third) ≡ false
+  match-short n literal third a =
+      let far : ℕ = max (n / 549755813888) (max (third % 8192) (third / 8192 % 8192)) in
+      match-lawful n literal third ∙ lt-leb (at + 2 + suc far) long (omega arith)
 
 -- Deny's obligations are brought down while the decision is Deny and some are left
 module _ (r : Move) (h : Head) (x y : Bool) where
@@ -89,36 +89,26 @@ pub found : (p : List ℕ) (i k : ℕ) → getD p i 0 % 16 ≡ k → fetch p i �
 unfolding fetch entryOf
 found p i k e = rw e
 
-pub no-entry : (k n literal ways : ℕ) → 12 < k → entryBy k n literal ways ≡ further
-unfolding entryBy
-no-entry k n literal ways a =
-    rw (
-      ne-eqb k 0 (λ e. omega arith),
-      ne-eqb k 1 (λ e. omega arith),
-      ne-eqb k 2 (λ e. omega arith),
-      ne-eqb k 3 (λ e. omega arith),
-      ne-eqb k 4 (λ e. omega arith),
-      ne-eqb k 5 (λ e. omega arith),
-      ne-eqb k 6 (λ e. omega arith),
-      ne-eqb k 7 (λ e. omega arith),
-      ne-eqb k 8 (λ e. omega arith),
-      ne-eqb k 9 (λ e. omega arith),
-      ne-eqb k 10 (λ e. omega arith),
-      ne-eqb k 11 (λ e. omega arith),
-      ne-eqb k 12 (λ e. omega arith),
-    )
-
 -- a number that no kind has
-pub lawful-none : (p : List ℕ) (i long : ℕ) → 12 < getD p i 0 % 16 → lawful long i (fetch p i) ≡ false
-unfolding lawful
-lawful-none p i long a = rw (found p i (getD p i 0 % 16) refl, no-entry (getD p i 0 % 16) (getD p i 0 / 16) (getD p (i + 1) 0) (getD p (i + 2) 0) a)
-
-none-below : (k : ℕ) → 0 ≤ k
-none-below k = omega arith
-
-beyond : (n k : ℕ) → n ≤ k → (k ≡ n → ⊥) → n + 1 ≤ k
-beyond n k a e = omega arith
-
-pub past-all : (k : ℕ) → (k ≡ 0 → ⊥) → (k ≡ 1 → ⊥) → (k ≡ 2 → ⊥) → (k ≡ 3 → ⊥) → (k ≡ 4 → ⊥) → (k ≡ 5 → ⊥) → (k ≡ 6 → ⊥) → (k ≡ 7 → ⊥)
-    → (k ≡ 8 → ⊥) → (k ≡ 9 → ⊥) → (k ≡ 10 → ⊥) → (k ≡ 11 → ⊥) → (k ≡ 12 → ⊥) → 12 < k
-past-all k a0 a1 a2 a3 a4 a5 a6 a7 a8 a9 a10 a11 a12 = let b4 = beyond 3 k (beyond 2 k (beyond 1 k (beyond 0 k (none-below k) a0) a1) a2) a3 in let b8 = beyond 7 k (beyond 6 k (beyond 5 k (beyond 4 k b4 a4) a5) a6) a7 in beyond 12 k (beyond 11 k (beyond 10 k (beyond 9 k (beyond 8 k b8 a8) a9) a10) a11) a12
+pub lawful-none : (p : List ℕ) (i long : ℕ) → let k = getD p i 0 % 16 in
+    (k ≡ 0 → ⊥) → (k ≡ 1 → ⊥) → (k ≡ 3 → ⊥) → (k ≡ 4 → ⊥) → (k ≡ 5 → ⊥) → (k ≡ 6 → ⊥) → (k ≡ 7 → ⊥) → (k ≡ 8 → ⊥)
+    → (k ≡ 9 → ⊥) → (k ≡ 10 → ⊥) → (k ≡ 11 → ⊥) → (k ≡ 12 → ⊥) → (k ≡ 13 → ⊥) → lawful long i (fetch p i) ≡ false
+unfolding lawful entryBy
+lawful-none p i long a0 a1 a3 a4 a5 a6 a7 a8 a9 a10 a11 a12 a13 =
+    let k : ℕ = getD p i 0 % 16 in
+    rw (
+      found p i k refl,
+      ne-eqb k 0 a0,
+      ne-eqb k 1 a1,
+      ne-eqb k 3 a3,
+      ne-eqb k 4 a4,
+      ne-eqb k 5 a5,
+      ne-eqb k 6 a6,
+      ne-eqb k 7 a7,
+      ne-eqb k 8 a8,
+      ne-eqb k 9 a9,
+      ne-eqb k 10 a10,
+      ne-eqb k 11 a11,
+      ne-eqb k 12 a12,
+      ne-eqb k 13 a13,
+    )

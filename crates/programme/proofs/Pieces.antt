@@ -32,7 +32,7 @@ module _ (which n literal : ℕ) where
   unfolding pieceBy
   loads-by e = rw e
 
-  asks-by : which ≡ 1 → pieceBy which n literal ≡ asks (n % 4294967296)
+  asks-by : which ≡ 1 → pieceBy which n literal ≡ asks (n % 281474976710656)
   unfolding pieceBy
   asks-by e = rw e
 
@@ -61,11 +61,11 @@ module _ (g : Bags) (long : ℕ) (h : Head) (which n literal l m : ℕ) (f b : F
       (does g long h (sum (loads n literal)) l m f b _ 1 (le-leb (h .at + 2) long k) (q (Is (valueOf n literal)) (ap Holds (sym (bytes-back n literal s)))) refl)
 
   module _ (inside : h .at < long) where
-    pub ask-does : {x : Word} {v : Move} → which ≡ 1 → x ≡ inBytes (theOnly (g (keyBy (n % 4294967296)))) → Puts x v
+    pub ask-does : {x : Word} {v : Move} → which ≡ 1 → x ≡ inBytes (theOnly (g (keyBy (n % 281474976710656)))) → Puts x v
         → Does v 0 ≡ meets g long h (sum (pieceBy which n literal)) l m f b
     unfolding core
     ask-does e r q =
-        let y : ℕ = n % 4294967296 in
+        let y : ℕ = n % 281474976710656 in
         rw (asks-by which n literal e)
         (does g long h (sum (asks y)) l m f b _ 0 (sym (lawful-fits long (h .at) (sum (asks y)) _ inside refl refl)) (q (theOnly (g (keyBy y))) r) refl)
 

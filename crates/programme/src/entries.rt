@@ -43,6 +43,7 @@ ghost use lib.Dec.{leb, ltb, eqb};
 ghost use lib.ListN.{length, getD};
 ghost use Rattle.record.specs.Choose.{both};
 ghost use Rattle.meaning.specs.Meaning.{Bags, decisionIn, is};
+ghost use Rattle.meaning.specs.Numbers.{keyNumber};
 ghost use Rattle.meaning.specs.Reading.{bagsOf};
 ghost use Rattle.meaning.specs.declared.Decision.the-variants.{Deny};
 ghost use Rattle.layout.specs.Entry.{begin, opens, close, sum, rule, enter, applies, conclude, oblige, leave, finish};
@@ -84,27 +85,33 @@ fn begin_at(long: u64, h: Head, n: u64) -> Met
 }
 
 // Matches and comparisons.
+fn key_by(bare: u64, issuer: u64) -> u64
+    requires { ⌜ (bare < 4294967296) × (issuer < 65536) ⌝ }
+    ensures { λ r. ⌜ r ≡ keyNumber bare issuer ⌝ }
+{
+    bare + 4294967296 * issuer
+}
+
 fn test_by(n: u64, key: u64, literal: u64) -> Test
-    requires { ⌜ key < 4294967296 ⌝ }
     ensures { λ r. ⌜ r ≡ testOf n key literal ⌝ }
 {
     let number = n % 8;
     Test {
         function: value::function_of(number as usize),
         must: n / 8 % 2 == 1,
-        key: key as u32,
+        key,
         literal,
     }
 }
 
-fn stands_at(n: u64, ways: u64) -> Stands
+fn stands_at(n: u64, third: u64) -> Stands
     ensures { λ r. ⌜ r ≡ record {
       m = eqb (n / 16 % 2) 1;
       c = eqb (n / 32 % 2) 1;
       l = eqb (n / 64 % 2) 1;
       i = n / 549755813888;
-      j = ways % 8192;
-      x = ways / 8192;
+      j = third % 8192;
+      x = third / 8192 % 8192;
     } ⌝ }
 {
     Stands {
@@ -112,8 +119,8 @@ fn stands_at(n: u64, ways: u64) -> Stands
         c: n / 32 % 2 == 1,
         l: n / 64 % 2 == 1,
         i: n / 549755813888,
-        j: ways % 8192,
-        x: ways / 8192,
+        j: third % 8192,
+        x: third / 8192 % 8192,
     }
 }
 
@@ -136,7 +143,8 @@ fn match_at(programme: &[u64], request: &[u8], h: Head, n: u64) -> Met
         return Met::Outside;
     }
     let literal = programme[at + 1];
-    let s = stands_at(n, programme[at + 2]);
+    let third = programme[at + 2];
+    let s = stands_at(n, third);
     let far = larger(s.i, larger(s.j, s.x));
     if !reaches(programme.len() as u64, h.at + 2, far) {
         return Met::Outside;
@@ -146,7 +154,8 @@ fn match_at(programme: &[u64], request: &[u8], h: Head, n: u64) -> Met
     let ors = found.ors;
     let sections = found.sections;
     let reg = found.reg;
-    let t = test_by(n, n / 128 % 4294967296, literal);
+    let key = key_by(n / 128 % 4294967296, third / 67108864 % 65536);
+    let t = test_by(n, key, literal);
     let v = meaning::and3(ands, request::matches(request, t));
     let on = match_done(v, s, ors, sections, reg);
     Met::Does(moving(on, Change::Keep, Change::Keep, Placing::Rest), 2)
@@ -155,22 +164,24 @@ fn match_at(programme: &[u64], request: &[u8], h: Head, n: u64) -> Met
 fn compare_at(programme: &[u64], request: &[u8], h: Head, n: u64, l: u64) -> Met
     requires { ⌜ h .at < length (now programme) ⌝ }
     ensures { λ r. ⌜ ((m : ℕ) (f b : Frame) → r ≡ meets (bagsOf (now (request .entry))) (length (now (programme .entry))) h
-        (compareBy n (getD (now (programme .entry)) (h .at + 1) 0)) l m f b) ⌝ }
+        (compareBy n (getD (now (programme .entry)) (h .at + 1) 0) (getD (now (programme .entry)) (h .at + 2) 0)) l m f b) ⌝ }
 {
     let at = h.at as usize;
-    if programme.len() - at < 2 {
+    if programme.len() - at < 3 {
         return Met::Outside;
     }
     let literal = programme[at + 1];
+    let issuer = programme[at + 2];
     let jump = n / 68719476736;
-    if !reaches(programme.len() as u64, h.at + 1, jump) {
+    if !reaches(programme.len() as u64, h.at + 2, jump) {
         return Met::Outside;
     }
     let found = h.found;
     let reg = found.reg;
-    let t = test_by(n, n / 16 % 4294967296, literal);
+    let key = key_by(n / 16 % 4294967296, issuer % 65536);
+    let t = test_by(n, key, literal);
     let v = request::comparison(request, t);
-    Met::Does(tell_level(v, jump, h.nest, l, reg), 1)
+    Met::Does(tell_level(v, jump, h.nest, l, reg), 2)
 }
 
 // Conditions.
@@ -219,8 +230,8 @@ fn sum_at(programme: &[u64], request: &[u8], h: Head, n: u64, l: u64, m: u64) ->
             Met::Does(put_word(h, Word::Holds(literal)), 1)
         }
         1 => {
-            let key = rest % 4294967296;
-            Met::Does(put_word(h, request::only(request, key as u32)), 0)
+            let key = rest % 281474976710656;
+            Met::Does(put_word(h, request::only(request, key)), 0)
         }
         2 => Met::Does(work_words(h, operator_by(rest), l, m), 0),
         _ => {
@@ -407,7 +418,6 @@ pub fn meet(programme: &[u64], request: &[u8], h: Head, l: u64, m: u64, f: u64, 
     match word % 16 {
         0 => begin_at(long, h, n),
         1 => match_at(programme, request, h, n),
-        2 => compare_at(programme, request, h, n, l),
         3 => open_at(long, h, n),
         4 => close_at(long, h, n, l, m),
         5 => rule_at(long, h, n, f),
@@ -418,6 +428,7 @@ pub fn meet(programme: &[u64], request: &[u8], h: Head, l: u64, m: u64, f: u64, 
         10 => leave_at(long, h, n, b),
         11 => finish_at(long, h),
         12 => sum_at(programme, request, h, n, l, m),
+        13 => compare_at(programme, request, h, n, l),
         _ => Met::Outside,
     }
 }

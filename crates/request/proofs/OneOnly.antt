@@ -14,7 +14,7 @@ use Rattle.sums.proofs.Numbers.{value-number}
 use Rattle.meaning.specs.Meaning.{theOnly}
 use Rattle.meaning.specs.Numbers.{valueUnder}
 use Rattle.meaning.specs.Policy.{Key}
-use Rattle.meaning.specs.Reading.{keyIn, sameKey, bagFrom, bagsOf}
+use Rattle.meaning.specs.Reading.{keyIn, takes, bagFrom, bagsOf}
 use Rattle.request.specs.Bag.{entriesOf}
 
 -- what a bag holds are numbers
@@ -25,7 +25,7 @@ Numbers (v ∷ vs) = T (isNumber v) × Numbers vs
 bag-numbers : (q : List ℕ) (key : Key) (left k : ℕ) → Numbers (bagFrom q key left k)
 unfolding bagFrom Numbers
 bag-numbers q key zero k = tt
-bag-numbers q key (suc left) k = go (sameKey (keyIn q k) key) (bag-numbers q key left (k + 1))
+bag-numbers q key (suc left) k = go (takes key (keyIn q k)) (bag-numbers q key left (k + 1))
   where
     go : (b : Bool) → Numbers (bagFrom q key left (k + 1)) → Numbers (if b (valueUnder key (bigOf q (k * size + 8) 8) ∷ []) [] ++ bagFrom q key left (k + 1))
     go true rest = (value-number (key .type) (bigOf q (k * size + 8) 8), rest)

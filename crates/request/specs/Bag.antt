@@ -5,16 +5,16 @@ use lib.ListN.{length}
 use Rattle.record.specs.Choose.{if}
 use Rattle.record.specs.Bytes.{size}
 use Rattle.meaning.specs.Policy.{Key}
-use Rattle.meaning.specs.Reading.{keyIn, sameKey}
+use Rattle.meaning.specs.Reading.{keyIn, takes}
 
 -- the entries of a request
 abbrev pub entriesOf : List ℕ → ℕ
 entriesOf q = length q / size
 
--- the first of `left` entries from k on that has the key; the place behind them where none has
+-- the first of `left` entries from k on that the key takes; the place behind them where it takes none
 unfoldable pub firstOf : List ℕ → Key → ℕ → ℕ → ℕ
 firstOf q key zero k = k
-firstOf q key (suc left) k = if (sameKey (keyIn q k) key) k (firstOf q key left (k + 1))
+firstOf q key (suc left) k = if (takes key (keyIn q k)) k (firstOf q key left (k + 1))
 
 -- the next entry of the key, from k on
 abbrev pub nextOf : List ℕ → Key → ℕ → ℕ

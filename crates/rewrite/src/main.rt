@@ -1,4 +1,4 @@
-// Reads BOOK.HEX and prints it again in capitals, or the line of its refusal.
+// Reads BOOK.HEX and prints it again in capitals and with 40 digits a line, or the line of its refusal.
 use libc::STDOUT_FILENO;
 use text::Filled;
 ghost use mathlib.Core.Path.{_≡_};
@@ -10,7 +10,7 @@ ghost use Rattle.rewrite.specs.Rewrite.{printed};
 
 // Puts what is to be printed first into `out`, and answers its length. `records` is for the work.
 fn rewritten(text: &[u8], records: &mut [u8], out: &mut [u8]) -> usize
-    requires { ⌜ (length (now records) ≡ size * mostRecords) × (lineLength * mostRecords ≤ length (now out)) ⌝ }
+    requires { ⌜ (length (now records) ≡ size * mostRecords) × (lineLength size * mostRecords ≤ length (now out)) ⌝ }
     ensures { λ r. ⌜ (r ≤ length (now (out .exit))) × (take r (now (out .exit)) ≡ printed (now (text .entry))) ⌝ }
 {
     match text::read_book(text, records) {

@@ -8,7 +8,7 @@ use native.Mathlib.Omega.{arith}
 use lib.Dec.{eqb, leb}
 use borrow.Author.Tests.{eq-eqb, ne-eqb, leb-true, leb-false}
 use Rattle.record.specs.Choose.{both, among}
-use Rattle.record.specs.Bytes.{byteOf, spanOf}
+use Rattle.record.specs.Bytes.{size, byteOf, spanOf}
 use Rattle.record.proofs.Choose.{no-false, both-left, both-right, both-parts}
 use Rattle.fields.specs.Fields.{kindAt, typeOf, finite, valueOk, zeros, literalOk, fieldOk}
 use Rattle.fields.specs.declared.Kind.{Kind}
@@ -77,8 +77,9 @@ literal-most : (b : List ℕ) (i : ℕ) → literalOk b i ≡ true → byteOf b 
 unfolding literalOk
 literal-most b i e =
     let v : Bool = valueOk (typeOf (byteOf b i 5)) (finite b i) in
-    let x = both-right (eqb (spanOf b i) 1) (both (zeros b i 4 5) (both v (zeros b i 6 8))) e in
-    type-most (byteOf b i 5) (finite b i) (both-left v (zeros b i 6 8) (both-right (zeros b i 4 5) (both v (zeros b i 6 8)) x))
+    let z : Bool = both (zeros b i 6 8) (zeros b i 16 size) in
+    let x = both-right (eqb (spanOf b i) 1) (both (zeros b i 4 5) (both v z)) e in
+    type-most (byteOf b i 5) (finite b i) (both-left v z (both-right (zeros b i 4 5) (both v z) x))
 
 pub literal-type : (b : List ℕ) (i : ℕ) → fieldOk b i ≡ true → kindAt b i ≡ Literal → valueType b i ≡ byteOf b i 5
 unfolding fieldOk valueType

@@ -2,9 +2,9 @@
 use mathlib.Core.Path.{_≡_, refl}
 use mathlib.Core.Bool.{Bool, true, false}
 use mathlib.Core.List.{List, [], _∷_}
-use Prim.Native.Nat.{ℕ}
+use Prim.Native.Nat.{ℕ, _+_}
 use lib.ListN.{set}
-use Rattle.record.specs.Bytes.{spanOf, bigOf}
+use Rattle.record.specs.Bytes.{size, spanOf, bigOf}
 use Rattle.record.specs.Below.{allBelow}
 use Rattle.record.specs.Forest.{spanIn, growF, forest}
 use Rattle.record.specs.Table.{tab}
@@ -22,14 +22,14 @@ a = lines bookA
 
 -- a deny-overrides policy of two records, itself and one Deny rule
 denies : List ℕ
-denies = lines (0x02010002000000000000000000000000 ∷ 0x03020001000000000000000000000000 ∷ [])
+denies = lines (0x0201000200000000000000000000000000000000 ∷ 0x0302000100000000000000000000000000000000 ∷ [])
 
 -- book A; a span past the parent's end; line 1's span; 16 and 17 nested sets; rule 2 of book A as its child, by itself; the same after an obligation; the
 -- policy of two records as a child of a set, after another policy
 judged : List Bool
 judged =
     soundBook (subtreesOf a 0 6)
-    ∷ soundBook (subtreesOf (set a 19 6) 0 6)
+    ∷ soundBook (subtreesOf (set a (size + 3) 6) 0 6)
     ∷ soundBook (subtreesOf (set a 3 5) 0 6)
     ∷ soundBook (subtreesOf (nested 16) 0 16)
     ∷ soundBook (subtreesOf (nested 17) 0 17)

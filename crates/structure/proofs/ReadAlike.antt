@@ -51,7 +51,7 @@ module _ (b c : List ℕ) where
     unfolding keyAt
     key-same =
         let x : (k : ℕ) → 4 ≤ k → k < size → byteOf b i k ≡ byteOf c j k = later-byte b i c j h in
-        rw (x 4 (omega arith) (omega arith), type-byte, x 6 (omega arith) (omega arith), x 7 (omega arith) (omega arith)) refl
+        rw (x 4 (omega arith) (omega arith), type-byte, x 6 (omega arith) (omega arith), x 7 (omega arith) (omega arith), big-same b i c j h 16 2 (omega arith) (omega arith)) refl
 
     test-same : (f : ℕ) → testAt b i f ≡ testAt c j f
     unfolding testAt

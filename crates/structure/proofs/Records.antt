@@ -103,7 +103,8 @@ module _ (b : List ℕ) (i : ℕ) (c : List ℕ) (j : ℕ) (h : SameRecord b i c
 
   compares-same : (f : ℕ) → comparesOk b i f ≡ comparesOk c j f
   unfolding comparesOk typeAt finite
-  compares-same f = rw (span-same, h 4 (omega arith), h 5 (omega arith), big-same b i c j (but-span b i c j h) 8 8 (omega arith) (omega arith)) refl
+  compares-same f =
+      rw (span-same, h 4 (omega arith), h 5 (omega arith), big-same b i c j (but-span b i c j h) 8 8 (omega arith) (omega arith), zeros-all 18 size (omega arith) (omega arith)) refl
 
   obligation-same : obligationOk b i ≡ obligationOk c j
   unfolding obligationOk
@@ -112,11 +113,19 @@ module _ (b : List ℕ) (i : ℕ) (c : List ℕ) (j : ℕ) (h : SameRecord b i c
   literal-same : literalOk b i ≡ literalOk c j
   unfolding literalOk finite
   literal-same =
-      rw (span-same, h 5 (omega arith), zeros-all 4 5 (omega arith) (omega arith), zeros-all 6 8 (omega arith) (omega arith), big-same b i c j (but-span b i c j h) 8 8 (omega arith) (omega arith)) refl
+      rw (
+        span-same,
+        h 5 (omega arith),
+        zeros-all 4 5 (omega arith) (omega arith),
+        zeros-all 6 8 (omega arith) (omega arith),
+        zeros-all 16 size (omega arith) (omega arith),
+        big-same b i c j (but-span b i c j h) 8 8 (omega arith) (omega arith),
+      )
+      refl
 
   attribute-same : attributeOk b i ≡ attributeOk c j
   unfolding attributeOk typeAt
-  attribute-same = rw (span-same, h 4 (omega arith), h 5 (omega arith), zeros-all 8 size (omega arith) (omega arith)) refl
+  attribute-same = rw (span-same, h 4 (omega arith), h 5 (omega arith), zeros-all 8 16 (omega arith) (omega arith), zeros-all 18 size (omega arith) (omega arith)) refl
 
   rules-same : (k : Kind) → rulesOf b i k ≡ rulesOf c j k
   rules-same PolicySet = plain-same 1

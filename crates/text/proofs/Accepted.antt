@@ -14,7 +14,7 @@ use Rattle.record.specs.Refusals.{tooMany, noRecord, cutShort, noRoom}
 use Rattle.record.specs.Table.{tab}
 use Rattle.record.proofs.Table.{length-tab}
 use Rattle.record.specs.declared.Refusal.{Refusal}
-use Rattle.text.specs.Text.{missing, judgeFrom, readOf, readJudged, writeOf, outputAfter, lineLength}
+use Rattle.text.specs.Text.{missing, lineLength, width, judgeFrom, readOf, readJudged, writeOf, outputAfter}
 use Rattle.text.specs.declared.Kind.{Kind}
 use Rattle.text.specs.declared.Judged.{Judged}
 use Rattle.text.specs.declared.Judged.the-variants.{Lines, Wrong, Over}
@@ -50,9 +50,9 @@ was-judged k (Lines n) room m e = read-by k n room m (missing k n) (ltb room (si
 was-judged k (Wrong l) room m e = absurd (no-places _ m e)
 was-judged k Over room m e = absurd (no-places _ m e)
 
-pub was-read : (k : Kind) (s : List ℕ) (room m : ℕ) → readOf k s room ≡ Places m → WasRead k room (judgeFrom s (k .most) 0) m
+pub was-read : (k : Kind) (s : List ℕ) (room m : ℕ) → readOf k s room ≡ Places m → WasRead k room (judgeFrom (width s) s (k .most) 0) m
 unfolding readOf
-was-read k s room m e = was-judged k (judgeFrom s (k .most) 0) room m e
+was-read k s room m e = was-judged k (judgeFrom (width s) s (k .most) 0) room m e
 
 pub read-fits : (k : Kind) (s : List ℕ) (room m : ℕ) {a : Filled} → a ≡ readOf k s room → a ≡ Places m → m ≤ room
 read-fits k s room m p q = was-read k s room m (sym p ∙ q) .fits
@@ -67,19 +67,19 @@ pub record WasWritten (k : Kind) (room : ℕ) (r : List ℕ) (m : ℕ) : Type 0 
   pub whole : length r % size ≤ 0
   pub few : length r / size ≤ k .most
   pub fits : m ≤ room
-  pub is : m ≡ lineLength * (length r / size)
+  pub is : m ≡ lineLength size * (length r / size)
 
-written-by : (k : Kind) (r : List ℕ) (room m : ℕ) (a b c d : Bool) → missing k (length r) ≡ a → ltb 0 (length r % size) ≡ b → ltb (k .most) (length r / size) ≡ c → ltb room (lineLength * (length r / size)) ≡ d
-    → if a (Refused (noRecord (k .part))) (if b (Refused (cutShort (k .part))) (if c (Refused (tooMany (k .part))) (if d (Refused noRoom) (Places (lineLength * (length r / size)))))) ≡ Places m → WasWritten k room r m
+written-by : (k : Kind) (r : List ℕ) (room m : ℕ) (a b c d : Bool) → missing k (length r) ≡ a → ltb 0 (length r % size) ≡ b → ltb (k .most) (length r / size) ≡ c → ltb room (lineLength size * (length r / size)) ≡ d
+    → if a (Refused (noRecord (k .part))) (if b (Refused (cutShort (k .part))) (if c (Refused (tooMany (k .part))) (if d (Refused noRoom) (Places (lineLength size * (length r / size)))))) ≡ Places m → WasWritten k room r m
 written-by k r room m true b c d p q s t e = absurd (no-places _ m e)
 written-by k r room m false true c d p q s t e = absurd (no-places _ m e)
 written-by k r room m false false true d p q s t e = absurd (no-places _ m e)
 written-by k r room m false false false true p q s t e = absurd (no-places _ m e)
 written-by k r room m false false false false p q s t e =
-    let i : m ≡ lineLength * (length r / size) = cc in
-    record { some = p; whole = ltb-false 0 (length r % size) q; few = ltb-false (k .most) (length r / size) s; fits = omega (arith, ltb-false room (lineLength * (length r / size)) t); is = i }
+    let i : m ≡ lineLength size * (length r / size) = cc in
+    record { some = p; whole = ltb-false 0 (length r % size) q; few = ltb-false (k .most) (length r / size) s; fits = omega (arith, ltb-false room (lineLength size * (length r / size)) t); is = i }
 
 pub was-written : (k : Kind) (r : List ℕ) (room m : ℕ) → writeOf k r room ≡ Places m → WasWritten k room r m
 unfolding writeOf
 was-written k r room m e =
-    written-by k r room m (missing k (length r)) (ltb 0 (length r % size)) (ltb (k .most) (length r / size)) (ltb room (lineLength * (length r / size))) refl refl refl refl e
+    written-by k r room m (missing k (length r)) (ltb 0 (length r % size)) (ltb (k .most) (length r / size)) (ltb room (lineLength size * (length r / size))) refl refl refl refl e

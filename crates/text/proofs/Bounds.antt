@@ -10,16 +10,17 @@ use lib.ListN.{length}
 use Rattle.record.specs.Bytes.{size}
 use Rattle.record.specs.Choose.{if}
 use Rattle.record.specs.Refusals.{tooMany, noRecord, cutShort, noRoom}
-use Rattle.text.specs.Text.{missing, judgeFrom, readOf, readJudged, writeOf, lineLength}
+use Rattle.text.specs.Text.{missing, lineLength, width, judgeFrom, readOf, readJudged, writeOf}
 use Rattle.text.specs.declared.Kind.{Kind}
 use Rattle.text.specs.declared.Judged.{Judged}
 use Rattle.text.specs.declared.Judged.the-variants.{Lines, Wrong, Over}
 use Rattle.text.specs.declared.Filled.{Filled}
 use Rattle.text.specs.declared.Filled.the-variants.{Places, Refused}
+use Rattle.text.proofs.Widths.{start-first}
 use Rattle.text.proofs.Lined.{judge-lined, wrong-within}
 
 abbrev pub Within : Kind → Filled → Type 0
-Within k (Places m) = m ≤ lineLength * k .most
+Within k (Places m) = m ≤ lineLength size * k .most
 Within k (Refused r) = (r .number ≤ 7) × (r .part ≤ max 3 (k .part)) × (r .line ≤ k .most)
 
 refused-within : (k : Kind) (number : ℕ) → number ≤ 7 → (number ≤ 7) × (k .part ≤ max 3 (k .part)) × (0 ≤ k .most)
@@ -42,12 +43,12 @@ judged-within k Over room f g = refused-within k 2 (omega arith)
 pub read-within : (k : Kind) (s : List ℕ) (room : ℕ) → Within k (readOf k s room)
 unfolding readOf
 read-within k s room =
-    judged-within k (judgeFrom s (k .most) 0) room
-    (λ n e. omega (arith, judge-lined s (k .most) 0 n zero-le e .few))
-    (λ l e. omega (arith, wrong-within s (k .most) 0 l e))
+    judged-within k (judgeFrom (width s) s (k .most) 0) room
+    (λ n e. omega (arith, judge-lined (width s) s (k .most) 0 n (start-first (width s) s) e .few))
+    (λ l e. omega (arith, wrong-within (width s) s (k .most) 0 l e))
 
 written-within : (k : Kind) (n : ℕ) (a b c d : Bool) → ltb (k .most) n ≡ c
-    → Within k (if a (Refused (noRecord (k .part))) (if b (Refused (cutShort (k .part))) (if c (Refused (tooMany (k .part))) (if d (Refused noRoom) (Places (lineLength * n))))))
+    → Within k (if a (Refused (noRecord (k .part))) (if b (Refused (cutShort (k .part))) (if c (Refused (tooMany (k .part))) (if d (Refused noRoom) (Places (lineLength size * n))))))
 written-within k n true b c d e = refused-within k 3 (omega arith)
 written-within k n false true c d e = refused-within k 4 (omega arith)
 written-within k n false false true d e = refused-within k 2 (omega arith)
@@ -56,4 +57,4 @@ written-within k n false false false false e = omega (arith, ltb-false (k .most)
 
 pub write-within : (k : Kind) (r : List ℕ) (room : ℕ) → Within k (writeOf k r room)
 unfolding writeOf
-write-within k r room = written-within k (length r / size) (missing k (length r)) (ltb 0 (length r % size)) (ltb (k .most) (length r / size)) (ltb room (lineLength * (length r / size))) refl
+write-within k r room = written-within k (length r / size) (missing k (length r)) (ltb 0 (length r % size)) (ltb (k .most) (length r / size)) (ltb room (lineLength size * (length r / size))) refl

@@ -1,4 +1,4 @@
--- Worked book A of document 01, read and written: the definitions compute. Assumes nothing.
+-- Worked book A of document 01, read and written, and texts whose lines differ: the definitions compute. Assumes nothing.
 use mathlib.Core.Path.{_≡_, refl}
 use mathlib.Core.List.{List, [], _∷_, _++_}
 use Prim.Native.Nat.{ℕ}
@@ -7,7 +7,8 @@ use Rattle.record.specs.Below.{allBelow}
 use Rattle.record.specs.Table.{tab}
 use Rattle.record.proofs.BookA.{bytes, lines, bookA}
 use Rattle.text.specs.Hex.{digitOf, isDigit, digitValue, letterOf}
-use Rattle.text.specs.Text.{book, goodLine, judgeFrom, readOf, readJudged, byteAt, textAt, writeOf}
+use Rattle.text.specs.Text.{book, start, width, goodLine, judgeFrom, readOf, readJudged, byteAt, textAt, writeOf}
+use Rattle.text.specs.RoundTrip.{lengthened}
 use Rattle.text.specs.declared.Filled.the-variants.{Places, Refused}
 
 line-1 : List ℕ
@@ -38,26 +39,52 @@ records = lines bookA
 wrong : List ℕ
 wrong = line-1 ++ line-2 ++ line-3 ++ (48 ∷ 55 ∷ 48 ∷ 67 ∷ 48 ∷ 71 ∷ 48 ∷ 49 ∷ 48 ∷ 52 ∷ 48 ∷ 49 ∷ 48 ∷ 48 ∷ 48 ∷ 55 ∷ 48 ∷ 48 ∷ 48 ∷ 48 ∷ 48 ∷ 48 ∷ 48 ∷ 48 ∷ 48 ∷ 48 ∷ 48 ∷ 48 ∷ 48 ∷ 48 ∷ 51 ∷ 50 ∷ 10 ∷ []) ++ line-5 ++ line-6
 
-read-a : readOf book text 96 ≡ Places 96
-unfolding text line-1 line-2 line-3 line-4 line-5 line-6 readOf readJudged judgeFrom goodLine allBelow isDigit digitOf
+-- the text that comes back, and texts in which a line is unlike line 1
+long : List ℕ
+long = lengthened text
+
+long-second : List ℕ
+long-second = line-1 ++ lengthened line-2
+
+short-second : List ℕ
+short-second = lengthened line-1 ++ line-2
+
+read-a : readOf book text 120 ≡ Places 120
+unfolding text line-1 line-2 line-3 line-4 line-5 line-6 readOf readJudged judgeFrom start width goodLine allBelow isDigit digitOf
 read-a = refl
 
-bytes-a : tab (byteAt text) 96 ≡ records
-unfolding text line-1 line-2 line-3 line-4 line-5 line-6 records bytes lines bookA tab byteAt digitValue digitOf
+bytes-a : tab (byteAt text) 120 ≡ records
+unfolding text line-1 line-2 line-3 line-4 line-5 line-6 records bytes lines bookA tab byteAt start width digitValue digitOf
 bytes-a = refl
 
-short-a : readOf book text 95 ≡ Refused noRoom
-unfolding text line-1 line-2 line-3 line-4 line-5 line-6 readOf readJudged judgeFrom goodLine allBelow isDigit digitOf
+short-a : readOf book text 119 ≡ Refused noRoom
+unfolding text line-1 line-2 line-3 line-4 line-5 line-6 readOf readJudged judgeFrom start width goodLine allBelow isDigit digitOf
 short-a = refl
 
-wrong-a : readOf book wrong 96 ≡ Refused (badLine 1 4)
-unfolding wrong line-1 line-2 line-3 line-4 line-5 line-6 readOf readJudged judgeFrom goodLine allBelow isDigit digitOf
+wrong-a : readOf book wrong 120 ≡ Refused (badLine 1 4)
+unfolding wrong line-1 line-2 line-3 line-4 line-5 line-6 readOf readJudged judgeFrom start width goodLine allBelow isDigit digitOf
 wrong-a = refl
 
-write-a : writeOf book records 198 ≡ Places 198
+write-a : writeOf book records 246 ≡ Places 246
 unfolding records bytes lines bookA writeOf
 write-a = refl
 
-text-a : tab (textAt records) 198 ≡ text
-unfolding text line-1 line-2 line-3 line-4 line-5 line-6 records bytes lines bookA tab textAt letterOf
+text-a : tab (textAt records) 246 ≡ long
+unfolding long lengthened text line-1 line-2 line-3 line-4 line-5 line-6 records bytes lines bookA tab textAt letterOf
 text-a = refl
+
+read-long-a : readOf book long 120 ≡ Places 120
+unfolding long lengthened tab text line-1 line-2 line-3 line-4 line-5 line-6 readOf readJudged judgeFrom start width goodLine allBelow isDigit digitOf
+read-long-a = refl
+
+bytes-long-a : tab (byteAt long) 120 ≡ records
+unfolding long lengthened text line-1 line-2 line-3 line-4 line-5 line-6 records bytes lines bookA tab byteAt start width digitValue digitOf
+bytes-long-a = refl
+
+unlike-short : readOf book long-second 40 ≡ Refused (badLine 1 2)
+unfolding long-second lengthened tab line-1 line-2 readOf readJudged judgeFrom start width goodLine allBelow isDigit digitOf
+unlike-short = refl
+
+unlike-long : readOf book short-second 40 ≡ Refused (badLine 1 2)
+unfolding short-second lengthened tab line-1 line-2 readOf readJudged judgeFrom start width goodLine allBelow isDigit digitOf
+unlike-long = refl

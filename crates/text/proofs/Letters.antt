@@ -1,5 +1,5 @@
 -- Letters and values undo one another: tests that antt computes at each byte. Assumes nothing.
-use mathlib.Core.Path.{_≡_, refl}
+use mathlib.Core.Path.{_≡_, refl, _∙_}
 use mathlib.Core.Bool.{Bool, true, false}
 use Prim.Native.Nat.{ℕ, _%_, _<_}
 use native.Mathlib.Omega.{arith}
@@ -7,9 +7,10 @@ use borrow.Author.Tests.{eqb-true}
 use lib.Dec.{eqb}
 use Rattle.record.specs.Choose.{if, both}
 use Rattle.record.specs.Below.{allBelow}
-use Rattle.record.proofs.Choose.{both-left, both-right}
+use Rattle.record.proofs.Choose.{no-false, both-left, both-right}
 use Rattle.record.proofs.Below.{all-at}
 use Rattle.text.specs.Hex.{digitOf, isDigit, digitValue, letterOf}
+use Rattle.text.specs.Text.{lf}
 use Rattle.text.specs.RoundTrip.{upper}
 
 -- only the last digit counts
@@ -37,3 +38,11 @@ capitals = refl
 
 pub letter-value : (c : ℕ) → c < 256 → isDigit c ≡ true → letterOf (digitValue c) ≡ upper c
 letter-value c h d = eqb-true (letterOf (digitValue c)) (upper c) (implied (isDigit c) _ (all-at _ 256 capitals c h) d)
+
+-- LF is no digit, and no digit's capital
+pub digit-no-lf : (c : ℕ) → isDigit c ≡ true → c ≡ lf → ⊥
+unfolding isDigit digitOf
+digit-no-lf c d e = let z : false ≡ true = rw e at d in no-false z
+
+pub capital-no-lf : (c : ℕ) → c < 256 → isDigit c ≡ true → upper c ≡ lf → ⊥
+capital-no-lf c h d e = digit-no-lf (letterOf (digitValue c)) (digit-letter (digitValue c)) (letter-value c h d ∙ e)

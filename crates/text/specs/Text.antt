@@ -29,35 +29,46 @@ request = record { most = mostEntries; empty = true; part = refusals.request }
 abbrev pub missing : Kind → ℕ → Bool
 missing k n = if (k .empty) false (eqb n 0)
 
--- 32 hexadecimal digits ..
-abbrev pub digits : ℕ
-digits = 2 * size
+-- a line says the bytes of a record, or so many: all but the issuer and the two after it, which are then zero
+abbrev pub shortSize : ℕ
+shortSize = 16
 
--- .. and one LF per record
+-- two hexadecimal digits a byte, 40 or 32 a line ..
+abbrev pub digits : ℕ → ℕ
+digits w = 2 * w
+
+-- .. and one LF a line
 abbrev pub lf : ℕ
 lf = 10
 
--- the bytes of a line
-abbrev pub lineLength : ℕ
-lineLength = digits + 1
+abbrev pub lineLength : ℕ → ℕ
+lineLength w = digits w + 1
+
+-- where line n + 1 begins, if each line says w bytes
+unfoldable pub start : ℕ → ℕ → ℕ
+start w n = lineLength w * n
+
+-- line 1 fixes how many bytes a line says: by where its LF stands
+unfoldable pub width : List ℕ → ℕ
+width text = if (eqb (getD text (digits shortSize) 0) lf) shortSize size
 
 -- the byte j places on is a digit
 abbrev pub digitAt : List ℕ → ℕ → ℕ → Bool
 digitAt text at j = isDigit (getD text (at + j) 0)
 
--- 32 digits and LF stand at this place
-unfoldable pub goodLine : List ℕ → ℕ → Bool
-goodLine text at =
-    both (leb (at + lineLength) (length text))
-    (both (eqb (getD text (at + digits) 0) lf)
-    (allBelow (digitAt text at) digits))
+-- the digits of w bytes and LF stand at this place
+unfoldable pub goodLine : ℕ → List ℕ → ℕ → Bool
+goodLine w text at =
+    both (leb (at + lineLength w) (length text))
+    (both (eqb (getD text (at + digits w) 0) lf)
+    (allBelow (digitAt text at) (digits w)))
 
 -- a text is judged line by line, 2 before 1 on each line: here from line n + 1 on, of which there may be so many more
-unfoldable pub judgeFrom : List ℕ → ℕ → ℕ → Judged
-judgeFrom text zero n = if (leb (length text) (lineLength * n)) (Lines n) Over
-judgeFrom text (suc more) n =
-    if (leb (length text) (lineLength * n)) (Lines n)
-    (if (goodLine text (lineLength * n)) (judgeFrom text more (n + 1)) (Wrong (n + 1)))
+unfoldable pub judgeFrom : ℕ → List ℕ → ℕ → ℕ → Judged
+judgeFrom w text zero n = if (leb (length text) (start w n)) (Lines n) Over
+judgeFrom w text (suc more) n =
+    if (leb (length text) (start w n)) (Lines n)
+    (if (goodLine w text (start w n)) (judgeFrom w text more (n + 1)) (Wrong (n + 1)))
 
 -- then 3; then 7: what reading answers, by how the lines were judged
 unfoldable pub readJudged : Kind → Judged → ℕ → Filled
@@ -70,13 +81,14 @@ readJudged k (Lines n) room =
 
 -- what reading answers, by the text and the places of the output
 unfoldable pub readOf : Kind → List ℕ → ℕ → Filled
-readOf k text room = readJudged k (judgeFrom text (k .most) 0) room
+readOf k text room = readJudged k (judgeFrom (width text) text (k .most) 0) room
 
--- byte i of the records that a text says: two digits
+-- byte i of the records that a text says: two digits, or 0 past what a line says
 unfoldable pub byteAt : List ℕ → ℕ → ℕ
 byteAt text i =
-    let p = lineLength * (i / size) + 2 * (i % size) in
-    16 * digitValue (getD text p 0) + digitValue (getD text (p + 1) 0)
+    let w = width text in
+    let p = start w (i / size) + digits (i % size) in
+    if (ltb (i % size) w) (16 * digitValue (getD text p 0) + digitValue (getD text (p + 1) 0)) 0
 
 -- what writing answers, by the records and the places of the output: 3 (book only), 4, 2, 7
 unfoldable pub writeOf : Kind → List ℕ → ℕ → Filled
@@ -85,15 +97,15 @@ writeOf k records room =
     if (missing k (length records)) (Refused (noRecord (k .part)))
     (if (ltb 0 (length records % size)) (Refused (cutShort (k .part)))
     (if (ltb (k .most) n) (Refused (tooMany (k .part)))
-    (if (ltb room (lineLength * n)) (Refused noRoom)
-    (Places (lineLength * n)))))
+    (if (ltb room (lineLength size * n)) (Refused noRoom)
+    (Places (lineLength size * n)))))
 
 -- byte j of the text that records make, in capitals: LF at the end of each line, and the upper half of a byte before the lower
 unfoldable pub textAt : List ℕ → ℕ → ℕ
 textAt records j =
-    let b = getD records (size * (j / lineLength) + j % lineLength / 2) 0 in
-    if (eqb (j % lineLength) digits) lf
-    (if (eqb (j % lineLength % 2) 0) (letterOf (b / 16)) (letterOf b))
+    let b = getD records (size * (j / lineLength size) + j % lineLength size / 2) 0 in
+    if (eqb (j % lineLength size) (digits size)) lf
+    (if (eqb (j % lineLength size % 2) 0) (letterOf (b / 16)) (letterOf b))
 
 -- what a lent output holds after the answer: only the places that are filled have changed
 unfoldable pub outputAfter : (ℕ → ℕ) → Filled → List ℕ → List ℕ

@@ -8,9 +8,12 @@ ghost use Rattle.record.specs.Bytes.{size};
 ghost use Rattle.record.specs.Below.{allBelow};
 ghost use Rattle.record.specs.Table.{tab};
 ghost use Rattle.text.specs.Hex.{digitOf, isDigit, digitValue, letterOf};
-ghost use Rattle.text.specs.Text.{book, request, missing, digits, lineLength, digitAt, goodLine, judgeFrom, byteAt, textAt, readOf, writeOf, outputAfter};
+ghost use Rattle.text.specs.Text.{book, request, missing, shortSize, digits, lineLength, start, width, digitAt, goodLine, judgeFrom, byteAt, textAt, readOf, writeOf, outputAfter};
 
-// The digits of a line, and its bytes: the digits and LF.
+// The bytes that a line says without the issuer's.
+const SHORT: usize = 16;
+
+// The digits of a line that is written, and its bytes: the digits and LF.
 const DIGITS: usize = 2 * record::SIZE;
 
 pub const LINE: usize = DIGITS + 1;
@@ -104,13 +107,26 @@ pub fn letter(n: usize) -> u8
     d + 55
 }
 
-// Whether the digits of a line stand at this place.
-fn all_digits(text: &[u8], at: usize) -> bool
-    requires { ⌜ at + digits ≤ length (now text) ⌝ }
-    ensures { λ r. ⌜ r ≡ allBelow (digitAt (now (text .entry)) at) digits ⌝ }
+// How many bytes a line says: line 1 fixes it by where its LF stands.
+fn width(text: &[u8]) -> usize
+    ensures { λ r. ⌜ r ≡ width (now (text .entry)) ⌝ }
+{
+    if text.len() <= 2 * SHORT {
+        return record::SIZE;
+    }
+    if text[2 * SHORT] == LF {
+        return SHORT;
+    }
+    record::SIZE
+}
+
+// Whether so many digits stand at this place.
+fn all_digits(text: &[u8], at: usize, n: usize) -> bool
+    requires { ⌜ at + n ≤ length (now text) ⌝ }
+    ensures { λ r. ⌜ r ≡ allBelow (digitAt (now (text .entry)) at) n ⌝ }
 {
     let mut j = 0;
-    while j < DIGITS {
+    while j < n {
         if !is_digit(text[at + j]) {
             return false;
         }
@@ -119,18 +135,19 @@ fn all_digits(text: &[u8], at: usize) -> bool
     true
 }
 
-// Whether the digits of a line and LF stand at this place.
-fn good_line(text: &[u8], at: usize) -> bool
-    requires { ⌜ at ≤ length (now text) ⌝ }
-    ensures { λ r. ⌜ r ≡ goodLine (now (text .entry)) at ⌝ }
+// Whether the digits of w bytes and LF stand at this place.
+fn good_line(w: usize, text: &[u8], at: usize) -> bool
+    requires { ⌜ (w ≤ size) × (at ≤ length (now text)) ⌝ }
+    ensures { λ r. ⌜ r ≡ goodLine w (now (text .entry)) at ⌝ }
 {
-    if text.len() - at < LINE {
+    let end = 2 * w;
+    if text.len() - at <= end {
         return false;
     }
-    if text[at + DIGITS] != LF {
+    if text[at + end] != LF {
         return false;
     }
-    all_digits(text, at)
+    all_digits(text, at, end)
 }
 
 // How the lines of a text stand: all are good, or this is the first that is not, or there are too many.
@@ -140,44 +157,51 @@ pub enum Judged {
     Over,
 }
 
-fn judge(text: &[u8], most: usize) -> Judged
-    ensures { λ r. ⌜ r ≡ judgeFrom (now (text .entry)) most 0 ⌝ }
+fn judge(w: usize, text: &[u8], most: usize) -> Judged
+    requires { ⌜ w ≤ size ⌝ }
+    ensures { λ r. ⌜ r ≡ judgeFrom w (now (text .entry)) most 0 ⌝ }
 {
     let mut n = 0;
+    let mut at = 0;
     while n < most {
-        if text.len() <= LINE * n {
+        if text.len() <= at {
             return Judged::Lines(n);
         }
-        if !good_line(text, LINE * n) {
+        if !good_line(w, text, at) {
             let line = n + 1;
             return Judged::Wrong(line);
         }
         n += 1;
+        at += 2 * w + 1;
     }
-    if text.len() <= LINE * n {
+    if text.len() <= at {
         return Judged::Lines(n);
     }
     Judged::Over
 }
 
 // Byte i of the records that the text says.
-fn byte_at(text: &[u8], i: usize) -> u8
-    requires { ⌜ lineLength * (i / size) + lineLength ≤ length (now text) ⌝ }
+fn byte_at(w: usize, text: &[u8], i: usize) -> u8
+    requires { ⌜ (w ≡ width (now text)) × (start w (i / size) + lineLength w ≤ length (now text)) ⌝ }
     ensures { λ r. ⌜ r ≡ byteAt (now (text .entry)) i ⌝ }
 {
-    let p = LINE * (i / record::SIZE) + 2 * (i % record::SIZE);
+    let k = i % record::SIZE;
+    if w <= k {
+        return 0;
+    }
+    let p = (2 * w + 1) * (i / record::SIZE) + 2 * k;
     16 * value(text[p]) + value(text[p + 1])
 }
 
 // The records of n lines, into the first places.
-fn decode(text: &[u8], n: usize, out: &mut [u8])
-    requires { ⌜ (lineLength * n ≤ length (now text)) × (size * n ≤ length (now out)) ⌝ }
+fn decode(w: usize, text: &[u8], n: usize, out: &mut [u8])
+    requires { ⌜ (w ≡ width (now text)) × (start w n ≤ length (now text)) × (size * n ≤ length (now out)) ⌝ }
     ensures { λ _. ⌜ now (out .exit) ≡ tab (byteAt (now (text .entry))) (size * n) ++ drop (size * n) (now (out .entry)) ⌝ }
 {
     let total = record::SIZE * n;
     let mut i = 0;
     while i < total {
-        out[i] = byte_at(text, i);
+        out[i] = byte_at(w, text, i);
         i += 1;
     }
 }
@@ -186,7 +210,8 @@ fn decode(text: &[u8], n: usize, out: &mut [u8])
 fn read_text(text: &[u8], kind: Kind, out: &mut [u8]) -> Filled
     ensures { λ r. ⌜ (r ≡ readOf kind (now (text .entry)) (length (now (out .entry)))) × (now (out .exit) ≡ outputAfter (byteAt (now (text .entry))) r (now (out .entry))) ⌝ }
 {
-    match judge(text, kind.most) {
+    let w = width(text);
+    match judge(w, text, kind.most) {
         Judged::Lines(n) => {
             if missing(kind, n) {
                 return Filled::Refused(record::no_record(kind.part));
@@ -195,7 +220,7 @@ fn read_text(text: &[u8], kind: Kind, out: &mut [u8]) -> Filled
             if out.len() < size {
                 return Filled::Refused(record::no_room());
             }
-            decode(text, n, out);
+            decode(w, text, n, out);
             Filled::Places(size)
         }
         Judged::Wrong(line) => Filled::Refused(record::bad_line(kind.part, line)),
@@ -205,7 +230,7 @@ fn read_text(text: &[u8], kind: Kind, out: &mut [u8]) -> Filled
 
 // Byte j of the text that the records make.
 fn text_at(records: &[u8], j: usize) -> u8
-    requires { ⌜ size * (j / lineLength) + size ≤ length (now records) ⌝ }
+    requires { ⌜ size * (j / lineLength size) + size ≤ length (now records) ⌝ }
     ensures { λ r. ⌜ r ≡ textAt (now (records .entry)) j ⌝ }
 {
     let k = j % LINE;
@@ -221,8 +246,8 @@ fn text_at(records: &[u8], j: usize) -> u8
 
 // The text of n records, into the first places.
 fn encode(records: &[u8], n: usize, out: &mut [u8])
-    requires { ⌜ (size * n ≤ length (now records)) × (lineLength * n ≤ length (now out)) ⌝ }
-    ensures { λ _. ⌜ now (out .exit) ≡ tab (textAt (now (records .entry))) (lineLength * n) ++ drop (lineLength * n) (now (out .entry)) ⌝ }
+    requires { ⌜ (size * n ≤ length (now records)) × (lineLength size * n ≤ length (now out)) ⌝ }
+    ensures { λ _. ⌜ now (out .exit) ≡ tab (textAt (now (records .entry))) (lineLength size * n) ++ drop (lineLength size * n) (now (out .entry)) ⌝ }
 {
     let total = LINE * n;
     let mut j = 0;

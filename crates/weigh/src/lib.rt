@@ -12,20 +12,29 @@ ghost use Rattle.record.specs.Forest.{forest};
 ghost use Rattle.sums.specs.Sums.{inBytes};
 ghost use Rattle.meaning.specs.Policy.{Expr};
 ghost use Rattle.meaning.specs.Meaning.{typeOf, worth, conditionOf};
-ghost use Rattle.meaning.specs.Reading.{choiceAt, keyAt, operatorOf, exprAt, exprsIn, weighsAt, bagsOf};
+ghost use Rattle.meaning.specs.Reading.{choiceAt, bareAt, keyAt, operatorOf, exprAt, exprsIn, weighsAt, bagsOf};
 ghost use Rattle.weigh.specs.Words.{operatedOf, weighedOf};
 ghost use Rattle.weigh.specs.Two.{secondIn};
 
-// The key of record i: bytes 4 to 7, without must-be-present.
-pub fn key_at(book: &[u8], i: usize) -> u32
+// The key of record i without its issuer: bytes 4 to 7, without must-be-present.
+fn bare_at(book: &[u8], i: usize) -> u32
     requires { ⌜ (i + 1) * size ≤ length (now book) ⌝ }
-    ensures { λ r. ⌜ r ≡ keyAt (now (book .entry)) i ⌝ }
+    ensures { λ r. ⌜ r ≡ bareAt (now (book .entry)) i ⌝ }
 {
     let word = record::big4(book, i * record::SIZE + 4);
     if record::byte(book, i, 5) < 128 {
         return word;
     }
     word - 8388608
+}
+
+// The key of record i, of six bytes.
+pub fn key_at(book: &[u8], i: usize) -> u64
+    requires { ⌜ (i + 1) * size ≤ length (now book) ⌝ }
+    ensures { λ r. ⌜ (r ≡ keyAt (now (book .entry)) i) × (r < 281474976710656) ⌝ }
+{
+    let issuer = record::big2(book, i * record::SIZE + 16);
+    bare_at(book, i) as u64 + 4294967296 * issuer as u64
 }
 
 // The operator that a choice names.

@@ -1,5 +1,5 @@
 use borrow.Author.Tests.{not-true, not-false}
-use Rattle.fields.proofs.Laws.{attribute-span, attribute-category, attribute-value, attribute-rest}
+use Rattle.fields.proofs.Laws.{attribute-span, attribute-category, attribute-value, attribute-back, attribute-rest}
 use borrow.Author.Needs.{needs}
 use Rattle.fields.proofs.attribute_ok.Statement.{statement}
 use Rattle.fields.proofs.attribute_ok.Tie as tie
@@ -20,10 +20,18 @@ returns-3 c =
 
 returns-4 : tie.Need-returns-4
 returns-4 c =
-    let valued = c .before in
+    let valued = c .before .before in
     let category = valued .before .before .before in
     let spanned = category .before .before .before in
-    attribute-rest _ _ (spanned .before .span .ensures .0) (spanned .if1 .left) (category .before .before .byte .ensures .0) (category .before .category-ok .ensures) (not-false _ (category .if2 .left)) (valued .before .before .type-at .ensures) (valued .before .value-ok .ensures) (not-false _ (valued .if3 .left)) (c .big8 .ensures)
+    attribute-back _ _ (spanned .before .span .ensures .0) (spanned .if1 .left) (category .before .before .byte .ensures .0) (category .before .category-ok .ensures) (not-false _ (category .if2 .left)) (valued .before .before .type-at .ensures) (valued .before .value-ok .ensures) (not-false _ (valued .if3 .left)) (c .before .big8 .ensures) (c .if4 .taken)
+
+returns-5 : tie.Need-returns-5
+returns-5 c =
+    let back = c .before in
+    let valued = back .before .before in
+    let category = valued .before .before .before in
+    let spanned = category .before .before .before in
+    attribute-rest _ _ (spanned .before .span .ensures .0) (spanned .if1 .left) (category .before .before .byte .ensures .0) (category .before .category-ok .ensures) (not-false _ (category .if2 .left)) (valued .before .before .type-at .ensures) (valued .before .value-ok .ensures) (not-false _ (valued .if3 .left)) (back .before .big8 .ensures) (back .if4 .left) (c .end-zero .ensures)
 
 pub attribute-ok-spec : {M : Type 1} → statement M
 attribute-ok-spec =
@@ -40,4 +48,6 @@ attribute-ok-spec =
     (λ c. search needs)
     (λ c. search needs)
     (λ c κs. search needs)
-    returns-4)
+    returns-4
+    (λ c κs. search needs)
+    returns-5)

@@ -1,5 +1,5 @@
 use borrow.Author.Tests.{not-true, not-false}
-use Rattle.fields.proofs.Laws.{compares-span, compares-category, compares-value, compares-rest}
+use Rattle.fields.proofs.Laws.{compares-span, compares-category, compares-value, compares-function, compares-rest}
 use borrow.Author.Needs.{needs}
 use Rattle.fields.proofs.compares_ok.Statement.{statement}
 use Rattle.fields.proofs.compares_ok.Tie as tie
@@ -20,10 +20,18 @@ returns-3 c =
 
 returns-4 : tie.Need-returns-4
 returns-4 c =
-    let valued = c .before in
+    let valued = c .before .before in
     let category = valued .before .before .before in
     let spanned = category .before .before .before in
-    compares-rest _ _ _ (spanned .before .before .type-at .ensures) (spanned .before .span .ensures .0) (spanned .if1 .left) (category .before .before .byte .ensures .0) (category .before .category-ok .ensures) (not-false _ (category .if2 .left)) (valued .before .before .is-finite .ensures) (valued .before .value-ok .ensures) (not-false _ (valued .if3 .left)) (c .function-ok .ensures)
+    compares-function _ _ _ (spanned .before .before .type-at .ensures) (spanned .before .span .ensures .0) (spanned .if1 .left) (category .before .before .byte .ensures .0) (category .before .category-ok .ensures) (not-false _ (category .if2 .left)) (valued .before .before .is-finite .ensures) (valued .before .value-ok .ensures) (not-false _ (valued .if3 .left)) (c .before .function-ok .ensures) (not-true _ (c .if4 .taken))
+
+returns-5 : tie.Need-returns-5
+returns-5 c =
+    let function = c .before in
+    let valued = function .before .before in
+    let category = valued .before .before .before in
+    let spanned = category .before .before .before in
+    compares-rest _ _ _ (spanned .before .before .type-at .ensures) (spanned .before .span .ensures .0) (spanned .if1 .left) (category .before .before .byte .ensures .0) (category .before .category-ok .ensures) (not-false _ (category .if2 .left)) (valued .before .before .is-finite .ensures) (valued .before .value-ok .ensures) (not-false _ (valued .if3 .left)) (function .before .function-ok .ensures) (not-false _ (function .if4 .left)) (c .end-zero .ensures)
 
 pub compares-ok-spec : {M : Type 1} → statement M
 compares-ok-spec =
@@ -39,4 +47,6 @@ compares-ok-spec =
     (λ c κs. search needs)
     returns-3
     (λ c κs. search needs)
-    returns-4)
+    returns-4
+    (λ c κs. search needs)
+    returns-5)

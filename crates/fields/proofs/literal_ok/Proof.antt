@@ -1,5 +1,5 @@
 use borrow.Author.Tests.{not-true, not-false}
-use Rattle.fields.proofs.Laws.{literal-span, literal-front, literal-value, literal-rest}
+use Rattle.fields.proofs.Laws.{literal-span, literal-front, literal-value, literal-name, literal-rest}
 use borrow.Author.Needs.{needs}
 use Rattle.fields.proofs.literal_ok.Statement.{statement}
 use Rattle.fields.proofs.literal_ok.Tie as tie
@@ -18,10 +18,18 @@ returns-3 c =
 
 returns-4 : tie.Need-returns-4
 returns-4 c =
-    let valued = c .before in
+    let valued = c .before .before in
     let front = valued .before .before .before .before .before in
     let spanned = front .before .before in
-    literal-rest _ _ (spanned .before .span .ensures .0) (spanned .if1 .left) (front .before .byte .ensures .0) (front .if2 .left) (valued .before .before .before .before .byte2 .ensures .0) (valued .before .before .before .type-of .ensures) (valued .before .before .is-finite .ensures) (valued .before .value-ok .ensures) (not-false _ (valued .if3 .left)) (c .big2 .ensures)
+    literal-name _ _ (spanned .before .span .ensures .0) (spanned .if1 .left) (front .before .byte .ensures .0) (front .if2 .left) (valued .before .before .before .before .byte2 .ensures .0) (valued .before .before .before .type-of .ensures) (valued .before .before .is-finite .ensures) (valued .before .value-ok .ensures) (not-false _ (valued .if3 .left)) (c .before .big2 .ensures) (c .if4 .taken)
+
+returns-5 : tie.Need-returns-5
+returns-5 c =
+    let name = c .before in
+    let valued = name .before .before in
+    let front = valued .before .before .before .before .before in
+    let spanned = front .before .before in
+    literal-rest _ _ (spanned .before .span .ensures .0) (spanned .if1 .left) (front .before .byte .ensures .0) (front .if2 .left) (valued .before .before .before .before .byte2 .ensures .0) (valued .before .before .before .type-of .ensures) (valued .before .before .is-finite .ensures) (valued .before .value-ok .ensures) (not-false _ (valued .if3 .left)) (name .before .big2 .ensures) (name .if4 .left) (c .big4 .ensures)
 
 pub literal-ok-spec : {M : Type 1} → statement M
 literal-ok-spec =
@@ -39,4 +47,8 @@ literal-ok-spec =
     (λ c. search needs)
     (λ c. search needs)
     (λ c κs. search needs)
-    returns-4)
+    returns-4
+    (λ c. search needs)
+    (λ c. search needs)
+    (λ c κs. search needs)
+    returns-5)

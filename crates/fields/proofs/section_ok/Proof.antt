@@ -29,7 +29,7 @@ returns-5 c =
     let typed = named .before .before in
     let category = typed .before .before in
     let spanned = category .before .before .before in
-    section-rest _ _ (spanned .before .span .ensures .0) (spanned .if1 .left) (category .before .before .byte .ensures .0) (category .before .category-ok .ensures) (not-false _ (category .if2 .left)) (typed .before .byte2 .ensures .0) (typed .if3 .left) (named .before .big2 .ensures) (named .if4 .left) (c .big8 .ensures)
+    section-rest _ _ (spanned .before .span .ensures .0) (spanned .if1 .left) (category .before .before .byte .ensures .0) (category .before .category-ok .ensures) (not-false _ (category .if2 .left)) (typed .before .byte2 .ensures .0) (typed .if3 .left) (named .before .big2 .ensures) (named .if4 .left) (c .back-zero .ensures)
 
 pub section-ok-spec : {M : Type 1} → statement M
 section-ok-spec =
@@ -46,7 +46,5 @@ section-ok-spec =
     (λ c. search needs)
     (λ c κs. search needs)
     returns-4
-    (λ c. search needs)
-    (λ c. search needs)
     (λ c κs. search needs)
     returns-5)

@@ -17,10 +17,10 @@ loop-holds : tie.Need-loop-holds Inv-loop μ-loop
 loop-holds c = (refl, refl)
 
 returns : tie.Need-returns Inv-loop μ-loop
-returns c = next-here _ (c .before .before .loop-test .taken) (c .before .big4 .ensures) (c .if1 .taken) ∙ c .before .before .before .loop .inv .1
+returns c = next-here _ _ (c .before .before .loop-test .taken) (c .before .takes .ensures) (c .if1 .taken) ∙ c .before .before .before .loop .inv .1
 
 loop-again : tie.Need-loop-again Inv-loop μ-loop
-loop-again c = (search needs, next-further _ (c .before .before .loop-test .taken) (c .before .big4 .ensures) (c .if1 .left) ∙ c .before .before .before .loop .inv .1)
+loop-again c = (search needs, next-further _ _ (c .before .before .loop-test .taken) (c .before .takes .ensures) (c .if1 .left) ∙ c .before .before .before .loop .inv .1)
 
 returns-2 : tie.Need-returns-2 Inv-loop μ-loop
 returns-2 c = next-none _ _ _ (c .loop-test .left) ∙ c .before .loop .inv .1
@@ -32,7 +32,6 @@ next-spec =
     Inv-loop
     μ-loop
     loop-holds
-    (λ c. search needs)
     (λ c κs. search needs)
     returns
     (λ c. search needs)

@@ -8,4 +8,4 @@ unfolding keyBy
 returns c = c .value-of .ensures
 
 pub value-under-spec : {M : Type 1} → statement M
-value-under-spec = tie.close (tie.spec (λ c. search needs) (λ c κs. search needs) returns)
+value-under-spec = tie.close (tie.spec (λ c κs. search needs) returns)

@@ -1,20 +1,34 @@
 use borrow.Author.Needs.{needs}
+use mathlib.Core.Path.{sym}
 use native.Mathlib.Omega.{arith}
-use Rattle.text.specs.Text.{byteAt}
+use Rattle.text.specs.Text.{start}
+use Rattle.text.proofs.Widths.{said, unsaid}
 use Rattle.text.proofs.byte_at.Statement.{statement}
 use Rattle.text.proofs.byte_at.Tie as tie
+
+returns : tie.Need-returns
+returns c = sym (unsaid _ _ _ (c .before .before .pre .0) (omega arith))
 
 mul-p : tie.Need-mul-p
 mul-p c = search needs
 
-mul-p-2 : tie.Need-mul-p-2
-mul-p-2 c = search needs
-
 add-p : tie.Need-add-p
 add-p c = search needs
 
+mul-p-2 : tie.Need-mul-p-2
+unfolding start
+mul-p-2 c = omega arith
+
+mul-p-3 : tie.Need-mul-p-3
+mul-p-3 c = search needs
+
+add-p-2 : tie.Need-add-p-2
+unfolding start
+add-p-2 c = omega arith
+
 shared-slice-read-value : tie.Need-shared-slice-read-value
-shared-slice-read-value c = search needs
+unfolding start
+shared-slice-read-value c = omega arith
 
 value-requires : tie.Need-value-requires
 value-requires c κs = search needs
@@ -23,10 +37,12 @@ mul-result : tie.Need-mul-result
 mul-result c = search needs
 
 add-value : tie.Need-add-value
-add-value c = search needs
+unfolding start
+add-value c = omega arith
 
 shared-slice-read-value-2 : tie.Need-shared-slice-read-value-2
-shared-slice-read-value-2 c = search needs
+unfolding start
+shared-slice-read-value-2 c = omega arith
 
 value-requires-2 : tie.Need-value-requires-2
 value-requires-2 c κs = search needs
@@ -34,17 +50,20 @@ value-requires-2 c κs = search needs
 add-result : tie.Need-add-result
 add-result c = search needs
 
-returns : tie.Need-returns
-unfolding byteAt
-returns c = omega arith
+returns-2 : tie.Need-returns-2
+unfolding start
+returns-2 c = omega (arith, said _ _ _ (c .before .before .before .before .before .before .pre .0) (c .before .before .before .before .if1 .left))
 
 pub byte-at-spec : {M : Type 1} → statement M
 byte-at-spec =
     tie.close
     (tie.spec
+    returns
     mul-p
-    mul-p-2
     add-p
+    mul-p-2
+    mul-p-3
+    add-p-2
     shared-slice-read-value
     value-requires
     mul-result
@@ -52,4 +71,4 @@ byte-at-spec =
     shared-slice-read-value-2
     value-requires-2
     add-result
-    returns)
+    returns-2)

@@ -18,7 +18,7 @@ loop-holds : tie.Need-loop-holds Inv-loop μ-loop
 loop-holds c = (search needs, fill-none _ _ _ refl)
 
 loop-again : tie.Need-loop-again Inv-loop μ-loop
-loop-again c = (search needs, tab-more _ _ (c .before .before .loop .inv .1) (c .before .loop-test .taken) (omega arith) (c .text-at .ensures))
+loop-again c = (search needs, tab-more _ _ (c .before .before .loop .inv .1) (omega arith) (omega arith) (c .text-at .ensures))
 
 returns : tie.Need-returns Inv-loop μ-loop
 returns c = tab-done _ _ (c .before .loop .inv .1) (omega arith)

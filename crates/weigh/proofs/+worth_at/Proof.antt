@@ -32,7 +32,7 @@ abbrev worth-at-calls : ℕ → worth-at-lts.Claims
 worth-at-calls t = (byte-reads.Asked, byte-reads.Learnt, key-at-reads.Asked, key-at-reads.Learnt, only-reads.Asked, only-reads.Learnt, big8-reads.Asked, big8-reads.Learnt, second-in-reads.Asked, second-in-reads.Learnt, span-in-reads.Asked, span-in-reads.Learnt, worth-at-below t, worth-at.Post, operator-of-reads.Asked, operator-of-reads.Learnt, operated-reads.Asked, operated-reads.Learnt)
 
 worth-at-returns : (t : ℕ) → worth-at-lts.Need-returns (worth-at-calls t) (worth-at-at t) worth-at.Post
-worth-at-returns t c = attribute-is _ _ _ _ (c .before .before .before .byte .ensures .0) (c .before .before .if1 .taken) (c .before .key-at .ensures) (c .only .ensures)
+worth-at-returns t c = attribute-is _ _ _ _ (c .before .before .before .byte .ensures .0) (c .before .before .if1 .taken) (c .before .key-at .ensures .0) (c .only .ensures)
 
 worth-at-returns-2 : (t : ℕ) → worth-at-lts.Need-returns-2 (worth-at-calls t) (worth-at-at t) worth-at.Post
 worth-at-returns-2 t c = literal-is _ _ _ _ (c .before .before .before .byte .ensures .0) (c .if2 .taken) (c .before .big8 .ensures) (c .before .big8 .ok)

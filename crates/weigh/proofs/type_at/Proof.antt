@@ -8,7 +8,7 @@ returns : tie.Need-returns
 returns c = (λ es. literal-type _ _ (c .before .before .byte .ensures .0) es (c .before .if1 .taken) (c .byte2 .ensures .0), c .byte2 .ensures .1)
 
 returns-2 : tie.Need-returns-2
-returns-2 c = (λ es. attribute-type _ _ (c .before .before .before .byte .ensures .0) es (c .before .if2 .taken) (c .key-at .ensures), omega arith)
+returns-2 c = (λ es. attribute-type _ _ (c .before .before .before .byte .ensures .0) es (c .before .if2 .taken) (c .key-at .ensures .0), omega arith)
 
 returns-3 : tie.Need-returns-3
 returns-3 c =
@@ -24,7 +24,6 @@ type-at-spec =
     (λ c κs. search needs)
     returns
     (λ c κs. search needs)
-    (λ c. search needs)
     returns-2
     (λ c κs. search needs)
     (λ c κs. search needs)
