@@ -4,6 +4,7 @@ use crate::borders::{self, Sum};
 use crate::policy::Value;
 use crate::random::Random;
 use crate::record::*;
+use crate::vouched;
 
 /// A sound book, and the entries of a request that take its sums to where they are meant to go.
 pub struct Book {
@@ -136,6 +137,8 @@ struct Generator<'r> {
     random: &'r mut Random,
     style: Style,
     identifiers: Vec<u16>,
+    /// Whose values its records ask for.
+    issuers: Vec<u16>,
     /// The literals of each type.
     literals: [Vec<[u8; 8]>; 3],
     /// The records that second operands, still to come, take at least.
@@ -289,10 +292,11 @@ impl<'r> Generator<'r> {
     fn new(random: &'r mut Random, style: Style) -> Generator<'r> {
         let common = [0, 1, 7, 255, 256, 65535, random.next() as u16];
         let identifiers = (0..random.between(1, 3)).map(|_| random.pick(&common)).collect();
+        let issuers = vouched::issuers(random);
         let literals = [INTEGER, NAME, DOUBLE]
             .map(|value_type| (0..random.between(1, 4)).map(|_| value(random, value_type)).collect());
         let book = Book { records: Vec::new(), wishes: Vec::new() };
-        Generator { random, style, identifiers, literals, kept: 0, book }
+        Generator { random, style, identifiers, issuers, literals, kept: 0, book }
     }
 
     /// The records that may still come.
@@ -439,8 +443,8 @@ impl<'r> Generator<'r> {
         let identifier = self.random.below(self.identifiers.len());
         test.0[6..8].copy_from_slice(&self.identifiers[identifier].to_be_bytes());
         let literals = &self.literals[usize::from(value_type) - 1];
-        let literal = literals[self.random.below(literals.len())];
-        test.0[8..].copy_from_slice(&literal);
+        test.set_value(literals[self.random.below(literals.len())]);
+        test.set_issuer(self.random.pick(&self.issuers));
         self.book.records.push(test);
     }
 
@@ -505,7 +509,7 @@ impl<'r> Generator<'r> {
     fn literal(&mut self, value: Value) {
         let mut literal = record(VALUE, LITERAL);
         literal.0[5] = value.value_type();
-        literal.0[8..].copy_from_slice(&value.bytes());
+        literal.set_value(value.bytes());
         self.book.records.push(literal);
     }
 
@@ -519,8 +523,10 @@ impl<'r> Generator<'r> {
         let must = if self.random.chance(30) { MUST_BE_PRESENT } else { 0 };
         attribute.0[4..6].copy_from_slice(&[category, value.value_type() + must]);
         attribute.0[6..8].copy_from_slice(&identifier.to_be_bytes());
+        attribute.set_issuer(self.random.pick(&self.issuers));
         self.book.records.push(attribute);
-        self.book.wishes.push(Entry::new(category, value.value_type(), identifier, value.bytes()));
+        let wish = Entry::new(category, value.value_type(), identifier, value.bytes());
+        self.book.wishes.push(wish.by(attribute.issuer()));
     }
 }
 

@@ -1,12 +1,21 @@
 //! Every rule by which a book or a request is refused, as a run of judging must meet them.
 
-use crate::judge::{unused_group, PASSED_OVER, THREE_RULES, TWO_RULES};
+use crate::judge::{
+    unused_group, LAST_BYTES, MISFIT, MISFITS, NO_ISSUER, OF_TWO_BYTES, PASSED_OVER, THREE_RULES, TWO_RULES,
+};
 use crate::operands::wanted_wrong_operands;
+use crate::record::SHORT;
 use crate::tally::{numbers, pairs, triples, words, Wanted};
 
 /// Every cause that a run of comparisons must meet as the only cause of a refusal.
 pub fn wanted_causes() -> Wanted {
-    [wanted_fields(), wanted_places(), wanted_wrong_operands(), wanted_together()].concat()
+    let alone = [wanted_fields(), wanted_issuer_bytes(), wanted_places(), wanted_wrong_operands()];
+    [alone.concat(), wanted_misfits(), wanted_together()].concat()
+}
+
+/// Lengths that are no multiple of 20, of 16 among them.
+pub fn wanted_misfits() -> Wanted {
+    vec![(MISFIT, pairs(&["book", "request"], &MISFITS))]
 }
 
 /// The kinds of records, the choices of conditions and values told apart.
@@ -31,6 +40,7 @@ const CONDITIONS: [&str; 3] = ["condition", "comparison", "comparison of values"
 fn wanted_fields() -> Wanted {
     let with_choice = ["set", "policy", "rule", "section", "conjunction", "match", "condition", "obligation", "value"];
     let typed = ["match", "comparison", "entry", "literal"];
+    let issuer = SHORT as u64;
     let mut wanted = vec![
         ("field: kind", words(&["unknown"])),
         ("field: choice", words(&with_choice)),
@@ -42,16 +52,27 @@ fn wanted_fields() -> Wanted {
         ("field: type", words(&["attribute", "literal that must be present"])),
         ("field: value not finite", words(&typed)),
         ("field: function of a name", words(&["match", "comparison"])),
-        ("field: unused byte of a section", numbers(5..16)),
-        ("field: unused byte of an obligation", numbers((4..6).chain(8..16))),
+        ("field: unused byte of a section", numbers(5..issuer)),
+        ("field: unused byte of an obligation", numbers((4..6).chain(8..issuer))),
         ("field: unused byte of an entry", numbers(4..8)),
         (unused_group("literal"), numbers([4, 6, 7])),
-        (unused_group("attribute"), numbers(8..16)),
+        (unused_group("attribute"), numbers(8..issuer)),
     ];
     for name in ["set", "policy", "rule", "conjunction", "condition", "comparison of values", "operator"] {
-        wanted.push((unused_group(name), numbers(4..16)));
+        wanted.push((unused_group(name), numbers(4..issuer)));
     }
     wanted
+}
+
+/// Bytes 16 to 19, on every kind of record and on entries.
+fn wanted_issuer_bytes() -> Wanted {
+    let ask = ["match", "comparison", "attribute"];
+    let others: Vec<&str> = ALL.into_iter().filter(|name| !ask.contains(name)).collect();
+    vec![
+        (NO_ISSUER, pairs(&others, &OF_TWO_BYTES)),
+        (LAST_BYTES, pairs(&ALL, &OF_TWO_BYTES)),
+        (LAST_BYTES, pairs(&["entry"], &OF_TWO_BYTES)),
+    ]
 }
 
 fn wanted_places() -> Wanted {

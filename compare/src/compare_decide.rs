@@ -1,25 +1,30 @@
 //! The comparison of deciding, through the C host.
 
 use crate::books::{self, Book};
+use crate::causes::wanted_misfits;
 use crate::damage;
 use crate::decide;
 use crate::doubt;
+use crate::issuers::{self, wanted_issuers};
 use crate::judge::{self, refusals_of};
 use crate::lent::Lent;
 use crate::paper;
 use crate::random::Random;
-use crate::record::{book_bytes, records, request_bytes, Entry, Record, OBLIGATION};
+use crate::record::{book_bytes, records, request_bytes, Entry, Record, LENGTH, OBLIGATION};
 use crate::refusal::Part;
 use crate::requests;
 use crate::run::{hex, Difference};
 use crate::subject::Host;
 use crate::tally::{numbers, words, Tally, Wanted};
 use crate::text;
+use crate::vouched;
 
 const ROOMS: [&str; 5] = ["exact", "one longer", "longer", "one short", "none"];
 
 pub fn wanted() -> Wanted {
     let mut wanted = decide::wanted();
+    wanted.extend(wanted_issuers());
+    wanted.extend(wanted_misfits());
     wanted.extend([
         (refusals_of(Part::Book), numbers([2, 3, 4, 5, 9, 10, 11, 12])),
         (refusals_of(Part::Request), numbers([2, 4, 5])),
@@ -44,13 +49,17 @@ fn some_case(random: &mut Random) -> (Book, Vec<Entry>) {
     if random.chance(OF_DOUBTS) {
         return doubt::book(random);
     }
+    if random.chance(OF_ISSUERS) {
+        return vouched::book(random);
+    }
     let book = books::book(random);
     let entries = requests::request(random, &book);
     (book, entries)
 }
 
-/// How many of a hundred books are made for what is Indeterminate in them.
+/// How many of a hundred books are made for what is Indeterminate in them, and of the others for issuers.
 const OF_DOUBTS: usize = 5;
+const OF_ISSUERS: usize = 5;
 
 /// The bytes of output that a book with these records needs.
 fn needed(records: &[Record]) -> usize {
@@ -88,6 +97,8 @@ pub fn check(host: &dyn Host, book: &[u8], request: &[u8], out: &[u8], tally: &m
     let expected = decide::host_call(book, request, &mut expected_out, tally);
     if expected % 256 == 255 {
         count_faults(book, request, out, tally);
+    } else {
+        issuers::count(book, request, tally);
     }
     let (lent_book, lent_request, mut lent_out) = (Lent::new(book), Lent::new(request), Lent::new(out));
     let got = host.decide(lent_book.part(), lent_request.part(), lent_out.part_mut());
@@ -123,7 +134,7 @@ pub fn check_paper(host: &dyn Host) -> Result<(), Difference> {
 
 /// The record bytes of a text that is right.
 pub fn bytes_of(part: Part, lines: &str) -> Vec<u8> {
-    let mut bytes = vec![0; lines.lines().count() * 16];
+    let mut bytes = vec![0; lines.lines().count() * LENGTH];
     text::read(part, lines.as_bytes(), &mut bytes).expect("the text is right");
     bytes
 }

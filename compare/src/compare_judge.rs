@@ -6,7 +6,7 @@ use crate::damage;
 use crate::judge::{self, refusals_of};
 use crate::lent::Lent;
 use crate::random::Random;
-use crate::record::{book_bytes, request_bytes};
+use crate::record::{book_bytes, entries, records, request_bytes, ANY, NOBODY};
 use crate::refusal::Part;
 use crate::requests;
 use crate::run::{hex, Difference};
@@ -24,11 +24,13 @@ pub fn wanted() -> Wanted {
         ("depth of the deepest value of an accepted book", numbers(4..=16)),
         ("records of an accepted book", numbers([1, 2, 3, 998, 999, 1000])),
         ("entries of an accepted request", numbers([0, 1, 2, 63, 64])),
+        (ISSUER, words(&["match", "comparison", "attribute", "entry"])),
     ]);
     wanted
 }
 
 const AT_LINE_1: &str = "refusals at line 1";
+const ISSUER: &str = "issuer in what is accepted";
 
 /// Judges one generated book or request.
 pub fn case(library: &dyn Judge, random: &mut Random, tally: &mut Tally) -> Result<(), Difference> {
@@ -50,6 +52,9 @@ pub fn check_book(library: &dyn Judge, bytes: &[u8], tally: &mut Tally) -> Resul
             tally.met("depth of the deepest value of an accepted book", accepted.values as u64);
             if accepted.records <= 3 || accepted.records >= 998 {
                 tally.met("records of an accepted book", accepted.records as u64);
+            }
+            for record in records(bytes).iter().filter(|record| record.issuer() != ANY) {
+                tally.met(ISSUER, record.name());
             }
             256 * accepted.records as u64 + 16_777_216 * accepted.obligations as u64
         }
@@ -76,12 +81,15 @@ fn only_nine_at_line_1(bytes: &[u8], answer: u64) -> Result<(), Difference> {
 
 pub fn check_request(library: &dyn Judge, bytes: &[u8], tally: &mut Tally) -> Result<(), Difference> {
     let expected = match judge::request(bytes) {
-        Ok(entries) => {
+        Ok(count) => {
             tally.met("accepted", "request");
-            if entries <= 2 || entries >= 63 {
-                tally.met("entries of an accepted request", entries as u64);
+            if count <= 2 || count >= 63 {
+                tally.met("entries of an accepted request", count as u64);
             }
-            256 * entries as u64
+            if entries(bytes).iter().any(|entry| entry.issuer() != NOBODY) {
+                tally.met(ISSUER, "entry");
+            }
+            256 * count as u64
         }
         Err(refused) => {
             refused.count(tally);

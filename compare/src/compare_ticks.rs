@@ -2,23 +2,26 @@
 
 use crate::bench::{Bench, Left, Machine, MOST_ENTRIES, PLACES};
 use crate::books::{self, Book};
+use crate::causes::wanted_misfits;
 use crate::codes::wanted_codes;
 use crate::compare_decide::bytes_of;
 use crate::damage;
 use crate::decide;
 use crate::doubt;
 use crate::expression::wanted_sums;
-use crate::judge::{self, refusals_of};
+use crate::issuers::{self, wanted_issuers};
+use crate::judge::{self, refusals_of, Refused};
 use crate::lent::Lent;
 use crate::paper;
 use crate::random::Random;
-use crate::record::{book_bytes, request_bytes, Entry};
+use crate::record::{book_bytes, request_bytes, Entry, LENGTH};
 use crate::refusal::{refuse, too_short, Part, Refusal};
 use crate::requests;
 use crate::run::{hex, Difference};
 use crate::subject::{Rig, TickAnswer, PIECES};
 use crate::tally::{numbers, words, Tally, Wanted};
 use crate::truth::wanted_zeros;
+use crate::vouched;
 
 const DEALINGS: [&str; 8] =
     ["one step a tick", "a few", "a few, zeros among them", "any", "exactly all", "all but one", "the largest", "300"];
@@ -27,6 +30,8 @@ pub fn wanted() -> Wanted {
     let mut wanted = wanted_zeros();
     wanted.extend(wanted_sums());
     wanted.extend(wanted_codes());
+    wanted.extend(wanted_issuers());
+    wanted.extend(wanted_misfits());
     wanted.extend([
         ("translated", words(&["exact room", "more room"])),
         (refusals_of(Part::Book), numbers([2, 3, 4, 5, 9, 10, 11, 12])),
@@ -63,13 +68,17 @@ pub fn some_case(random: &mut Random) -> (Book, Vec<Entry>) {
     if random.chance(OF_DOUBTS) {
         return doubt::book(random);
     }
+    if random.chance(OF_ISSUERS) {
+        return vouched::book(random);
+    }
     let book = some_book(random);
     let request = requests::request(random, &book);
     (book, request)
 }
 
-/// How many of a hundred books are made for what is Indeterminate in them.
+/// How many of a hundred books are made for what is Indeterminate in them, and of the others for issuers.
 const OF_DOUBTS: usize = 8;
+const OF_ISSUERS: usize = 8;
 
 fn some_book(random: &mut Random) -> Book {
     match random.below(100) {
@@ -106,31 +115,25 @@ fn translate(
     book: &[u8],
     tally: &mut Tally,
 ) -> Result<Option<Vec<u64>>, Difference> {
-    let needed = 8 * (book.len() / 16) + 8;
-    let (room, length) = match random.below(20) {
-        0 => ("short room", needed - 1),
-        1 => ("short room", random.below(needed)),
-        2..=5 => ("more room", needed + random.between(1, 20)),
-        _ => ("exact room", needed),
-    };
-    let expected = match judge::book(book) {
-        Err(refused) => Some(refused.refusal),
-        Ok(_) if length < needed => Some(too_short()),
-        Ok(_) => None,
+    let needed = 8 * (book.len() / LENGTH) + 8;
+    let (room, length) = some_room(random, needed);
+    let refused = match judge::book(book) {
+        Ok(_) if length < needed => Some(Refused::without_line(too_short())),
+        judged => judged.err(),
     };
     let before: Vec<u64> = (0..length).map(|_| random.next()).collect();
     let (got, programme) = translate_into(rig, book, &before)?;
     let wrong = |why: &str| Err(format!(" translating: {why}\n book {}\n room {length}\n got {got:#x}", hex(book)));
-    if let Some(refusal) = expected {
-        tally.met(refusals_of(refusal.part), refusal.number);
-        return if got != refusal.packed() || programme != before {
+    if let Some(refused) = refused {
+        refused.count(tally);
+        return if got != refused.refusal.packed() || programme != before {
             wrong("not refused as it should be")
         } else {
             Ok(None)
         };
     }
     let entries = (got / 256) as usize;
-    if got % 256 != 0 || entries == 0 || entries > MOST_A_RECORD * (book.len() / 16) {
+    if got % 256 != 0 || entries == 0 || entries > MOST_A_RECORD * (book.len() / LENGTH) {
         return wrong("no number of entries");
     }
     if programme[entries..] != before[entries..] {
@@ -142,6 +145,15 @@ fn translate(
     }
     tally.met("translated", room);
     Ok(Some(programme[..entries].to_vec()))
+}
+
+fn some_room(random: &mut Random, needed: usize) -> (&'static str, usize) {
+    match random.below(20) {
+        0 => ("short room", needed - 1),
+        1 => ("short room", random.below(needed)),
+        2..=5 => ("more room", needed + random.between(1, 20)),
+        _ => ("exact room", needed),
+    }
 }
 
 /// Translates into a buffer that holds `before`: the answer, and what it holds after.
@@ -181,6 +193,7 @@ impl Run<'_> {
     /// The answer and the output are those of the evaluator, and of the host.
     fn check_answer(&self, start: &[u64], whole: &Left, tally: &mut Tally) -> Result<(), Difference> {
         let (answer, looked_at) = decide::decide(self.book, self.bench.request(), tally);
+        issuers::count(self.book, self.bench.request(), tally);
         let (decision, code) = (answer.decision.number(), answer.decision.code());
         let count = answer.obligations.len();
         let mut out = answer.obligations.clone();
@@ -257,7 +270,10 @@ impl Run<'_> {
         let places = random.pick(&[PLACES, PLACES, PLACES - 1, 0]);
         let entries = random.pick(&[1, 1, 0, MOST_ENTRIES + 1]);
         let expected: Option<Refusal> = match judge::request(&request) {
-            Err(refused) => Some(refused.refusal),
+            Err(refused) => {
+                refused.count(tally);
+                Some(refused.refusal)
+            }
             Ok(_) if places < PLACES => Some(too_short()),
             Ok(_) if entries != 1 => Some(refuse(8, Part::Programme)),
             Ok(_) => None,
@@ -300,7 +316,7 @@ pub fn check_paper(machine: &Machine) -> Result<(), Difference> {
     for example in paper::examples() {
         let book = bytes_of(Part::Book, &example.book);
         let request = bytes_of(Part::Request, &example.request);
-        let room = 8 * (book.len() / 16) + 8;
+        let room = 8 * (book.len() / LENGTH) + 8;
         let short = machine.rig.translate(&book, &mut vec![0; room - 1]);
         let mut programme = vec![0; room];
         let entries = machine.rig.translate(&book, &mut programme);

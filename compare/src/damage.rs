@@ -43,16 +43,17 @@ pub fn request(random: &mut Random, mut entries: Vec<Entry>) -> Vec<u8> {
     if random.chance(85) {
         let at = random.below(entries.len());
         let place = random.below(LENGTH);
-        let entry = &mut entries[at].0;
-        match random.below(6) {
-            0 => entry[0] = random.pick(&[0, 5, 128, 255]),
-            1 => entry[1] = random.pick(&[0, 4, 128, 129, 130, 131, 255]),
-            2 => entry[random.between(4, 7)] = random.between(1, 255) as u8,
+        let entry = &mut entries[at];
+        match random.below(7) {
+            0 => entry.0[0] = random.pick(&[0, 5, 128, 255]),
+            1 => entry.0[1] = random.pick(&[0, 4, 128, 129, 130, 131, 255]),
+            2 => entry.0[random.between(4, 7)] = random.between(1, 255) as u8,
             3 => {
-                entry[1] = DOUBLE;
-                entry[8..].copy_from_slice(&unbounded(random));
+                entry.0[1] = DOUBLE;
+                entry.set_value(unbounded(random));
             }
-            _ => entry[place] = random.byte(),
+            4 => fill_one_or_both(random, &mut entry.0[LAST_AT]),
+            _ => entry.0[place] = random.byte(),
         }
     }
     let mut bytes = request_bytes(&entries);
@@ -62,14 +63,20 @@ pub fn request(random: &mut Random, mut entries: Vec<Entry>) -> Vec<u8> {
     bytes
 }
 
-/// Changes the length so that it is often no multiple of 16.
+/// Changes the length so that it is often no multiple of 20, as where issuers are left out.
 fn misfit(random: &mut Random, bytes: &mut Vec<u8>) {
-    if random.chance(50) {
-        let extra = random.between(1, 17);
-        bytes.extend(random.bytes(extra));
-    } else {
-        bytes.truncate(bytes.len().saturating_sub(random.between(1, 17)));
+    let change = random.between(1, LENGTH + 1);
+    match random.below(3) {
+        0 => bytes.extend(random.bytes(change)),
+        1 => bytes.truncate(bytes.len().saturating_sub(change)),
+        _ => *bytes = bytes.chunks(LENGTH).flat_map(|line| &line[..SHORT]).copied().collect(),
     }
+}
+
+/// Puts something other than zero into one of two bytes, or into both.
+fn fill_one_or_both(random: &mut Random, bytes: &mut [u8]) {
+    let (from, to) = random.pick(&[(0, 1), (1, 2), (0, 2)]);
+    bytes[from..to].iter_mut().for_each(|byte| *byte = random.between(1, 255) as u8);
 }
 
 /// The bytes of an infinity or of no number.
@@ -149,7 +156,7 @@ fn break_field(random: &mut Random, record: &mut Record) {
     let (literal, attribute) = (record.is_literal(), record.is_attribute());
     let has_category = test || attribute || record.kind() == SECTION;
     let function_base = if record.kind() == MATCH { 0 } else { COMPARISON };
-    match random.below(9) {
+    match random.below(11) {
         0 => record.0[0] = random.pick(&[0, 9, 11, 17, 18, 128, 255]),
         1 => record.0[1] = random.pick(&[0, 3, 4, 5, 6, 9, 10, 16, 20, 26, 128, 255]),
         2 => record.set_span(random.pick(&[0, 0, 1, 2, 256])),
@@ -158,13 +165,15 @@ fn break_field(random: &mut Random, record: &mut Record) {
         4 if test || literal || attribute => record.0[5] = random.pick(&[0, 4, 64, 127, 128, 132, 255]),
         5 if test || literal => {
             record.0[5] = DOUBLE + if literal { 0 } else { random.pick(&[0, MUST_BE_PRESENT]) };
-            record.0[8..].copy_from_slice(&unbounded(random));
+            record.set_value(unbounded(random));
         }
         6 if test => {
             record.0[1] = function_base + random.between(2, 5) as u8;
             record.0[5] = NAME + random.pick(&[0, MUST_BE_PRESENT]);
         }
-        _ => record.0[random.between(4, 15)] = random.between(1, 255) as u8,
+        7 => fill_one_or_both(random, &mut record.0[ISSUER_AT]),
+        8 => fill_one_or_both(random, &mut record.0[LAST_AT]),
+        _ => record.0[random.between(4, SHORT - 1)] = random.between(1, 255) as u8,
     }
 }
 

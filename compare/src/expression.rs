@@ -53,9 +53,9 @@ impl Evaluator<'_> {
                 self.met(WAITING, self.waiting as u64);
                 Ok(*value)
             }
-            Expression::Attribute { key, must_be_present } => {
+            Expression::Attribute { asked, must_be_present } => {
                 self.met(WAITING, self.waiting as u64);
-                self.one_and_only(*key, *must_be_present)
+                self.one_and_only(*asked, *must_be_present)
             }
             Expression::Operation { operator, operands } => {
                 let mut lost = Vec::new();
@@ -68,10 +68,10 @@ impl Evaluator<'_> {
         }
     }
 
-    fn one_and_only(&mut self, key: Key, must_be_present: bool) -> Operand {
-        let bag = self.bag(key);
+    fn one_and_only(&mut self, asked: Asked, must_be_present: bool) -> Operand {
+        let bag = self.bag("attribute", asked);
         let presence = PRESENCES[usize::from(must_be_present)];
-        self.met("attribute", (TYPES[usize::from(key.value_type) - 1], BAGS[bag.len().min(2)], presence));
+        self.met("attribute", (TYPES[usize::from(asked.key.value_type) - 1], BAGS[bag.len().min(2)], presence));
         let status = match bag[..] {
             [value] => return Ok(value),
             [] => Status::Missing,
@@ -147,7 +147,7 @@ impl Expression {
     fn value_type(&self) -> u8 {
         match self {
             Expression::Literal(value) => value.value_type(),
-            Expression::Attribute { key, .. } => key.value_type,
+            Expression::Attribute { asked, .. } => asked.key.value_type,
             Expression::Operation { operator: Operator::DoubleAdd, .. } => DOUBLE,
             Expression::Operation { .. } => INTEGER,
         }

@@ -137,12 +137,21 @@ fn no_line(number: u64, part: Part) -> Refused {
 
 fn whole_lines(bytes: &[u8], part: Part, most: usize) -> Result<(), Refused> {
     if bytes.len() % LENGTH != 0 {
-        return Err(no_line(4, part));
+        let of = if part == Part::Book { "book" } else { "request" };
+        return Err(Refused { causes: vec![(MISFIT, (of, misfit_word(bytes)).into())], ..no_line(4, part) });
     }
     if bytes.len() / LENGTH > most {
         return Err(no_line(2, part));
     }
     Ok(())
+}
+
+pub const MISFIT: &str = "length that 4 refuses";
+pub const MISFITS: [&str; 2] = ["a multiple of 16", "no multiple of 16"];
+
+/// How a length that 4 refuses stands to that of records without an issuer.
+pub fn misfit_word(bytes: &[u8]) -> &'static str {
+    MISFITS[usize::from(bytes.len() % SHORT != 0)]
 }
 
 fn line_without(causes: Vec<Cause>, number: u64, part: Part, line: usize) -> Result<(), Refused> {
@@ -195,7 +204,31 @@ fn field_faults(record: &Record) -> Vec<Cause> {
     }
     let unused = unused_bytes(record).into_iter().filter(|&place| record.0[place] != 0);
     faults.extend(unused.map(|place| (unused_group(name), Item::Number(place as u64))));
+    issuer_faults(&record.0, name, record.asks(), &mut faults);
     faults
+}
+
+/// An issuer where none may stand, and the two bytes after it.
+fn issuer_faults(line: &[u8; LENGTH], name: &'static str, may_stand: bool, faults: &mut Vec<Cause>) {
+    if !may_stand {
+        faults.extend(not_zero(NO_ISSUER, name, &line[ISSUER_AT]));
+    }
+    faults.extend(not_zero(LAST_BYTES, name, &line[LAST_AT]));
+}
+
+pub const NO_ISSUER: &str = "field: issuer where none may stand";
+pub const LAST_BYTES: &str = "field: bytes 18 and 19";
+pub const OF_TWO_BYTES: [&str; 3] = ["first", "second", "both"];
+
+/// Which of two bytes are not zero.
+fn not_zero(group: &'static str, name: &'static str, bytes: &[u8]) -> Option<Cause> {
+    let which = match (bytes[0], bytes[1]) {
+        (0, 0) => return None,
+        (_, 0) => OF_TWO_BYTES[0],
+        (0, _) => OF_TWO_BYTES[1],
+        _ => OF_TWO_BYTES[2],
+    };
+    Some((group, (name, which).into()))
 }
 
 /// A span that the kind cannot have. Operators and comparisons of values have no least span but 1.
@@ -251,16 +284,16 @@ fn value_faults(record: &Record, faults: &mut Vec<Cause>) {
     }
 }
 
-/// The places of the bytes that a record of this kind does not use.
+/// The places, before the issuer, of the bytes that a record of this kind does not use.
 fn unused_bytes(record: &Record) -> Vec<usize> {
     match record.kind() {
         MATCH => Vec::new(),
         CONDITION if record.is_comparison() => Vec::new(),
-        SECTION => (5..16).collect(),
-        OBLIGATION => (4..6).chain(8..16).collect(),
+        SECTION => (5..SHORT).collect(),
+        OBLIGATION => (4..6).chain(VALUE_AT).collect(),
         VALUE if record.is_literal() => vec![4, 6, 7],
-        VALUE if record.is_attribute() => (8..16).collect(),
-        _ => (4..16).collect(),
+        VALUE if record.is_attribute() => VALUE_AT.collect(),
+        _ => (4..SHORT).collect(),
     }
 }
 
@@ -292,6 +325,7 @@ fn entry_faults(entry: &Entry) -> Vec<Cause> {
     }
     let unused = (4..8).filter(|&place| entry.0[place] != 0);
     faults.extend(unused.map(|place| ("field: unused byte of an entry", Item::Number(place as u64))));
+    issuer_faults(&entry.0, "entry", true, &mut faults);
     faults
 }
 

@@ -15,6 +15,9 @@ mod damage;
 mod decide;
 mod doubt;
 mod expression;
+mod issuers;
+#[cfg(test)]
+mod issuers_tests;
 mod judge;
 mod lent;
 mod linked;
@@ -26,6 +29,10 @@ mod paper;
 mod planted;
 #[cfg(test)]
 mod planted_codes;
+#[cfg(test)]
+mod planted_issuers;
+#[cfg(test)]
+mod planted_texts;
 mod policy;
 mod random;
 mod record;
@@ -48,6 +55,10 @@ mod tests;
 mod text;
 mod truth;
 mod units;
+mod vouched;
+mod widths;
+#[cfg(test)]
+mod widths_tests;
 mod wished;
 
 use bench::Machine;

@@ -80,6 +80,13 @@ pub struct Key {
     pub identifier: u16,
 }
 
+/// What a record asks the request for: the values of a key that this issuer vouches for, or any issuer where it is 0.
+#[derive(Clone, Copy, PartialEq, Eq, Debug)]
+pub struct Asked {
+    pub key: Key,
+    pub issuer: u16,
+}
+
 #[derive(Clone, Copy, PartialEq, Eq, Debug)]
 pub enum Function {
     Equal,
@@ -92,7 +99,7 @@ pub enum Function {
 /// A match, or a comparison.
 pub struct Test {
     pub function: Function,
-    pub key: Key,
+    pub asked: Asked,
     pub must_be_present: bool,
     pub literal: Value,
 }
@@ -102,7 +109,7 @@ pub enum Expression {
     Literal(Value),
     /// The one value of a bag; that it must be present, or may be absent, has no effect.
     Attribute {
-        key: Key,
+        asked: Asked,
         must_be_present: bool,
     },
     Operation {
@@ -178,8 +185,10 @@ impl Policy {
     }
 }
 
+/// A value of a request. Nobody's issuer is 0.
 pub struct Attribute {
     pub key: Key,
+    pub issuer: u16,
     pub value: Value,
 }
 
@@ -188,11 +197,11 @@ pub fn tree(bytes: &[u8]) -> Policy {
     policy(&records(bytes))
 }
 
-/// The keys and values of an accepted request, in its order.
+/// The values of an accepted request with their keys and issuers, in its order.
 pub fn attributes(bytes: &[u8]) -> Vec<Attribute> {
     let attribute = |entry: &Entry| {
         let key = Key { category: entry.category(), value_type: entry.value_type(), identifier: entry.identifier() };
-        Attribute { key, value: Value::of(entry.value_type(), entry.value()) }
+        Attribute { key, issuer: entry.issuer(), value: Value::of(entry.value_type(), entry.value()) }
     };
     entries(bytes).iter().map(attribute).collect()
 }
@@ -284,18 +293,18 @@ fn expression(subtree: &[Record]) -> Expression {
     let record = &subtree[0];
     match record.choice() {
         LITERAL => Expression::Literal(Value::of(record.type_byte(), record.value())),
-        ATTRIBUTE => Expression::Attribute { key: key(record), must_be_present: must_be_present(record) },
+        ATTRIBUTE => Expression::Attribute { asked: asked(record), must_be_present: must_be_present(record) },
         choice => Expression::Operation { operator: Operator::of(choice), operands: Box::new(operands(subtree)) },
     }
 }
 
 fn test(record: &Record, choice: u8) -> Test {
-    let key = key(record);
+    let asked = asked(record);
     Test {
         function: function(choice),
-        key,
+        asked,
         must_be_present: must_be_present(record),
-        literal: Value::of(key.value_type, record.value()),
+        literal: Value::of(asked.key.value_type, record.value()),
     }
 }
 
@@ -309,9 +318,10 @@ fn function(choice: u8) -> Function {
     }
 }
 
-fn key(record: &Record) -> Key {
+fn asked(record: &Record) -> Asked {
     let value_type = record.type_byte() % MUST_BE_PRESENT;
-    Key { category: record.category(), value_type, identifier: record.identifier() }
+    let key = Key { category: record.category(), value_type, identifier: record.identifier() };
+    Asked { key, issuer: record.issuer() }
 }
 
 fn must_be_present(record: &Record) -> bool {

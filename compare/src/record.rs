@@ -1,6 +1,15 @@
-//! Records of a book and entries of a request: sixteen bytes each, and the words for their fields.
+//! Records of a book and entries of a request: twenty bytes each, and the words for their fields.
 
-pub const LENGTH: usize = 16;
+use std::ops::Range;
+
+/// The bytes of a record or an entry.
+pub const LENGTH: usize = 20;
+/// The bytes that a line of a short text gives: those before the issuer.
+pub const SHORT: usize = 16;
+/// Where the value stands in a record or an entry, the issuer, and the two bytes that are always zero.
+pub const VALUE_AT: Range<usize> = 8..SHORT;
+pub const ISSUER_AT: Range<usize> = SHORT..SHORT + 2;
+pub const LAST_AT: Range<usize> = SHORT + 2..LENGTH;
 pub const MOST_RECORDS: usize = 1000;
 pub const MOST_ENTRIES: usize = 64;
 pub const MOST_DEPTH: usize = 16;
@@ -34,6 +43,11 @@ pub const NAME: u8 = 2;
 pub const DOUBLE: u8 = 3;
 /// Added to the type.
 pub const MUST_BE_PRESENT: u8 = 128;
+
+/// The issuer of a record that takes any.
+pub const ANY: u16 = 0;
+/// The issuer of an entry that has none.
+pub const NOBODY: u16 = 0;
 
 #[derive(Clone, Copy, PartialEq, Eq, Debug)]
 pub struct Record(pub [u8; LENGTH]);
@@ -69,16 +83,35 @@ impl Record {
     }
 
     pub fn value(&self) -> [u8; 8] {
-        self.0[8..].try_into().unwrap()
+        self.0[VALUE_AT].try_into().unwrap()
+    }
+
+    pub fn set_value(&mut self, value: [u8; 8]) {
+        self.0[VALUE_AT].copy_from_slice(&value);
+    }
+
+    pub fn issuer(&self) -> u16 {
+        issuer_of(&self.0)
+    }
+
+    pub fn set_issuer(&mut self, issuer: u16) {
+        self.0[ISSUER_AT].copy_from_slice(&issuer.to_be_bytes());
+    }
+
+    /// A match, a comparison or an attribute: it asks for values of the request, and may name their issuer.
+    pub fn asks(&self) -> bool {
+        self.kind() == MATCH || self.is_comparison() || self.is_attribute()
+    }
+
+    /// What such a record asks for, with its literal as value where it has one.
+    pub fn asked(&self) -> Entry {
+        let value_type = self.type_byte() % MUST_BE_PRESENT;
+        Entry::new(self.category(), value_type, self.identifier(), self.value()).by(self.issuer())
     }
 
     /// A match, a comparison, an obligation, a literal or an attribute: it has no children.
     pub fn is_leaf(&self) -> bool {
-        self.kind() == MATCH
-            || self.kind() == OBLIGATION
-            || self.is_comparison()
-            || self.is_literal()
-            || self.is_attribute()
+        self.asks() || self.kind() == OBLIGATION || self.is_literal()
     }
 
     pub fn is_comparison(&self) -> bool {
@@ -148,8 +181,19 @@ impl Entry {
         bytes[0] = category;
         bytes[1] = value_type;
         bytes[2..4].copy_from_slice(&identifier.to_be_bytes());
-        bytes[8..].copy_from_slice(&value);
+        bytes[VALUE_AT].copy_from_slice(&value);
         Entry(bytes)
+    }
+
+    /// The same, vouched for by this issuer.
+    pub fn by(mut self, issuer: u16) -> Entry {
+        self.0[ISSUER_AT].copy_from_slice(&issuer.to_be_bytes());
+        self
+    }
+
+    /// Whether category, type and identifier are the same.
+    pub fn has_key_of(&self, other: &Entry) -> bool {
+        self.0[..4] == other.0[..4]
     }
 
     pub fn category(&self) -> u8 {
@@ -165,8 +209,20 @@ impl Entry {
     }
 
     pub fn value(&self) -> [u8; 8] {
-        self.0[8..].try_into().unwrap()
+        self.0[VALUE_AT].try_into().unwrap()
     }
+
+    pub fn set_value(&mut self, value: [u8; 8]) {
+        self.0[VALUE_AT].copy_from_slice(&value);
+    }
+
+    pub fn issuer(&self) -> u16 {
+        issuer_of(&self.0)
+    }
+}
+
+fn issuer_of(line: &[u8; LENGTH]) -> u16 {
+    u16::from_be_bytes(line[ISSUER_AT].try_into().unwrap())
 }
 
 /// The whole records of these bytes.

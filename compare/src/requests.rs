@@ -4,6 +4,7 @@ use crate::books::{finite, value, Book};
 use crate::judge::is_test;
 use crate::random::Random;
 use crate::record::*;
+use crate::vouched;
 
 /// What a book asks for, with a value that tells: the literal of a test, or what an operand is meant to be.
 #[derive(Clone, Copy)]
@@ -15,18 +16,19 @@ struct Aim {
 /// A sound request for this sound book.
 pub fn request(random: &mut Random, book: &Book) -> Vec<Entry> {
     let operands = book.wishes.iter().map(|&entry| Aim { entry, of_operand: true });
-    let tests = book.records.iter().filter(|record| is_test(record)).map(aim_of);
+    let tests = book.records.iter().filter(|record| is_test(record));
+    let tests = tests.map(|test| Aim { entry: test.asked(), of_operand: false });
     let aims: Vec<Aim> = operands.chain(tests).collect();
     let mut keys: Vec<Entry> = Vec::new();
     for aim in aims.iter().take(200) {
-        if !keys.iter().any(|key| same_key(key, &aim.entry)) {
+        if !keys.iter().any(|key| key.has_key_of(&aim.entry)) {
             keys.push(aim.entry);
         }
     }
     let mut entries = Vec::new();
     let mood = random.below(12);
     for key in keys {
-        let aims: Vec<Aim> = aims.iter().filter(|aim| same_key(&key, &aim.entry)).copied().collect();
+        let aims: Vec<Aim> = aims.iter().filter(|aim| key.has_key_of(&aim.entry)).copied().collect();
         let values = match mood {
             0 => 0,
             1..=4 => 1,
@@ -51,25 +53,16 @@ pub fn request(random: &mut Random, book: &Book) -> Vec<Entry> {
     entries
 }
 
-fn aim_of(test: &Record) -> Aim {
-    let value_type = test.type_byte() % MUST_BE_PRESENT;
-    let entry = Entry::new(test.category(), value_type, test.identifier(), test.value());
-    Aim { entry, of_operand: false }
-}
-
 /// An entry that no book asks for on purpose.
 pub fn stray(random: &mut Random) -> Entry {
     let value_type = random.pick(&[INTEGER, NAME, DOUBLE]);
     let identifier = random.pick(&[0, 1, 7, 255, 256, 65535]);
-    Entry::new(random.between(1, 4) as u8, value_type, identifier, value(random, value_type))
-}
-
-fn same_key(left: &Entry, right: &Entry) -> bool {
-    left.0[..4] == right.0[..4]
+    let entry = Entry::new(random.between(1, 4) as u8, value_type, identifier, value(random, value_type));
+    entry.by(vouched::anybody(random))
 }
 
 /// An entry for what is aimed at: its value, one just beside it, or another. Now and then it differs in category,
-/// identifier or type.
+/// identifier or type, more often in its issuer.
 fn near(random: &mut Random, aim: Aim) -> Entry {
     let mut entry = aim.entry;
     let value_type = entry.value_type();
@@ -82,7 +75,7 @@ fn near(random: &mut Random, aim: Aim) -> Entry {
         7..=8 => (bits ^ (1 << 63)).to_be_bytes(), // the other zero of a zero
         _ => value(random, value_type),
     };
-    entry.0[8..].copy_from_slice(&value);
+    entry.set_value(value);
     match random.below(60) {
         0 => entry.0[0] = entry.0[0] % 4 + 1,
         1 => entry.0[3] ^= 1,
@@ -90,7 +83,12 @@ fn near(random: &mut Random, aim: Aim) -> Entry {
         3 if value_type != DOUBLE => entry.0[1] = 3 - value_type,
         _ => {}
     }
-    entry
+    let issuer = match entry.issuer() {
+        ANY => vouched::anybody(random),
+        own if random.chance(if aim.of_operand { 8 } else { 20 }) => vouched::other(random, own),
+        own => own,
+    };
+    entry.by(issuer)
 }
 
 /// The value whose bits are one more, or one less.

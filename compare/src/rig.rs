@@ -26,9 +26,13 @@ pub const FIELDS: [Field; 12] = [
 #[cfg_attr(not(has_rig), allow(dead_code))]
 const NUMBERS: usize = 33;
 
-/// Bits 0-3 of an entry that is a piece of a sum; larger numbers are of no entry.
+/// Bits 0-3 of an entry that is a piece of a sum.
 #[cfg_attr(not(has_rig), allow(dead_code))]
 const SUM: u64 = 12;
+
+/// Bits 0-3 of no entry; 2 was a comparison's before there were issuers.
+#[cfg_attr(not(has_rig), allow(dead_code))]
+const OF_NONE: [u64; 3] = [2, 14, 15];
 
 /// Which piece an entry is, as `PIECES` has them: bits 4-5 say literal, attribute, operator or comparison, and of an
 /// operator the bits from 6 on say which.
@@ -52,7 +56,7 @@ fn outside(random: &mut Random, of_sum: bool, programme: &mut Vec<u64>, at: usiz
         programme[at] = rest << 6 | SUM;
         programme.truncate(at + 1);
     } else {
-        programme[at] = rest << 4 | random.pick(&[SUM + 1, SUM + 2, SUM + 3]);
+        programme[at] = rest << 4 | random.pick(&OF_NONE);
     }
 }
 

@@ -261,7 +261,7 @@ fn fields_of_values_are_judged() {
     for (place, byte) in [(3, 0), (3, 2), (4, 0), (4, 5), (5, 0), (5, 132), (8, 1), (15, 1)] {
         assert_eq!(spoilt(attribute(INTEGER), place, byte), (5, 4));
     }
-    for place in (4..16).chain([3]) {
+    for place in (4..LENGTH).chain([3]) {
         assert_eq!(spoilt(sum(), place, u8::from(place != 3)), (5, 4));
         let mut book = policy(compared(1, &[number(1), number(1)]));
         book[2].0[place] = u8::from(place != 3);

@@ -15,6 +15,8 @@ use crate::operands;
 use crate::paper;
 use crate::planted;
 use crate::planted_codes;
+use crate::planted_issuers;
+use crate::planted_texts;
 use crate::policy::Decision;
 use crate::random::Random;
 use crate::record::*;
@@ -25,7 +27,7 @@ use crate::subject::{Field, Host, Judge, Rig, Texts, Tick, TickAnswer};
 use crate::sums::Operator;
 use crate::tally::{Item, Tally, Wanted};
 use crate::text;
-use crate::truth::{Ways, RIGHT};
+use crate::truth::{Takes, Ways, RIGHT};
 
 // Document 01's examples
 
@@ -39,9 +41,9 @@ fn examples_of_document_01() {
 #[test]
 fn book_a_is_read_and_written_again() {
     let bytes = bytes_of(Part::Book, paper::A);
-    let mut again = vec![0; 6 * 33];
-    assert_eq!(text::write(Part::Book, &bytes, &mut again), Ok(6 * 33));
-    assert_eq!(again, paper::A.as_bytes());
+    let mut again = vec![0; 6 * 41];
+    assert_eq!(text::write(Part::Book, &bytes, &mut again), Ok(6 * 41));
+    assert_eq!(again, paper::A.replace('\n', "00000000\n").as_bytes());
     let small = paper::A.to_lowercase();
     assert_eq!(bytes_of(Part::Book, &small), bytes);
 }
@@ -49,26 +51,27 @@ fn book_a_is_read_and_written_again() {
 #[test]
 fn refusals_of_texts_come_in_order() {
     let read = |part, text: &str, room| text::read(part, text.as_bytes(), &mut vec![0; room]).unwrap_err().packed();
-    let line = "00112233445566778899AABBCCDDEEFF\n";
     assert_eq!(read(Part::Book, "", 0), 255 + 256 * 3 + (1 << 32));
     assert_eq!(text::read(Part::Request, b"", &mut []), Ok(0));
-    assert_eq!(read(Part::Book, &line[..32], 16), 255 + 256 + 65_536 + (1 << 32));
-    assert_eq!(read(Part::Book, &line.repeat(1000), 15_999), 255 + 256 * 7 + (3 << 32));
-    assert_eq!(read(Part::Book, &(line.repeat(1000) + "x"), 16_000), 255 + 256 * 2 + (1 << 32));
-    assert_eq!(read(Part::Request, &(line.repeat(64) + "x"), 16_000), 255 + 256 * 2 + (2 << 32));
-    assert_eq!(read(Part::Book, &(line.repeat(999) + "\n" + line), 0), 255 + 256 + 65_536 * 1000 + (1 << 32));
+    for line in ["00112233445566778899AABBCCDDEEFF\n", "00112233445566778899AABBCCDDEEFF00112233\n"] {
+        assert_eq!(read(Part::Book, line.trim_end(), 20), 255 + 256 + 65_536 + (1 << 32));
+        assert_eq!(read(Part::Book, &line.repeat(1000), 19_999), 255 + 256 * 7 + (3 << 32));
+        assert_eq!(read(Part::Book, &(line.repeat(1000) + "x"), 20_000), 255 + 256 * 2 + (1 << 32));
+        assert_eq!(read(Part::Request, &(line.repeat(64) + "x"), 20_000), 255 + 256 * 2 + (2 << 32));
+        assert_eq!(read(Part::Book, &(line.repeat(999) + "\n" + line), 0), 255 + 256 + 65_536 * 1000 + (1 << 32));
+    }
 }
 
 #[test]
 fn refusals_of_record_bytes_come_in_order() {
     let number = |bytes: &[u8]| judge::book(bytes).unwrap_err().refusal.number;
     assert_eq!(number(&[]), 3);
-    assert_eq!(number(&[0; 16_001]), 4);
-    assert_eq!(number(&[0; 16_016]), 2);
+    assert_eq!(number(&[0; 20_001]), 4);
+    assert_eq!(number(&[0; 20_020]), 2);
     let mut book = bytes_of(Part::Book, paper::A);
     book[3] = 5; // line 1 breaks a place rule
     assert_eq!(judge::book(&book).unwrap_err().refusal.packed(), 255 + 256 * 9 + 65_536 + (1 << 32));
-    book[5 * 16] = 9; // and line 6 a field rule
+    book[5 * LENGTH] = 9; // and line 6 a field rule
     assert_eq!(judge::book(&book).unwrap_err().refusal.packed(), 255 + 256 * 5 + 65_536 * 6 + (1 << 32));
 }
 
@@ -92,7 +95,7 @@ fn two_place_rules_at_one_line_give_the_lower() {
 /// Whether a function, of this literal and this request value, lets a rule apply.
 fn holds(function: u8, value_type: u8, literal: u64, value: u64) -> bool {
     let mut test = absent(CONDITION, COMPARISON + function, value_type);
-    test[0].0[8..].copy_from_slice(&literal.to_be_bytes());
+    test[0].set_value(literal.to_be_bytes());
     let book = book_bytes(&with(POLICY, FIRST_APPLICABLE, &[with(RULE, PERMIT, &[test])]));
     let request = request_bytes(&[Entry::new(1, value_type, 0, value.to_be_bytes())]);
     decide::decide(&book, &request, &mut Tally::default()).0.decision == Decision::Permit
@@ -261,7 +264,7 @@ fn an_output_is_too_short_only_for_obligations() {
     let mut book = bytes_of(Part::Book, paper::A);
     book[1] = 9;
     assert_eq!((count(&book, 3), count(&book, 4)), (1, 0));
-    assert_eq!(count(&book[..16], 0), 0);
+    assert_eq!(count(&book[..LENGTH], 0), 0);
 }
 
 // The comparisons
@@ -274,6 +277,14 @@ enum Plan {
     OneBeforeTwo,
     WrittenBeforeJudged,
     LastLineFeedNotAsked,
+    WidthOfEachLine,
+    LimitByBytes,
+    RoomForShortLines,
+    IssuerNotCleared,
+    WrittenShort,
+    IssuerAnywhere,
+    LastBytesNotJudged,
+    MultipleOf16,
     NineBeforeFive,
     DepthNotJudged,
     DepthBeforePlace,
@@ -303,6 +314,16 @@ enum Plan {
     CodeOfTheSecondOperand,
     FailedSumIsMissing,
     DenyWithCode,
+    AnyIssuer,
+    AnyForAMatch,
+    AnyForAComparison,
+    AnyForAnAttribute,
+    NobodysToo,
+    EqualAlone,
+    SomebodysAlone,
+    ByTheFirstByte,
+    ByTheSecondByte,
+    By15Bits,
     OperandLostBetweenTicks,
     OutputTouchedWhileRunning,
     StateLostOnRefusal,
@@ -317,23 +338,33 @@ struct Model(Plan);
 
 impl Texts for Model {
     fn read(&self, part: Part, text: &[u8], out: &mut [u8]) -> u64 {
-        let mut text = text.to_vec();
-        let most = text::most_lines(part) * 33;
+        let (mut text, before) = (text.to_vec(), out.to_vec());
+        let line = text::line_length(text::width(&text));
+        let most = text::most_lines(part) * line;
         match self.0 {
-            Plan::OneBeforeTwo if text.len() > most && text.len() % 33 != 0 => {
+            Plan::OneBeforeTwo if text.len() > most && text.len() % line != 0 => {
                 return text::read(part, &text, &mut vec![0; 40_000]).unwrap_err().packed() - 256
             }
             Plan::WrittenBeforeJudged if !out.is_empty() && !text.is_empty() => out[0] = 1,
-            Plan::LastLineFeedNotAsked if text.len() % 33 == 32 => text.push(b'\n'),
+            Plan::LastLineFeedNotAsked if text.len() % line == line - 1 => text.push(b'\n'),
+            Plan::WidthOfEachLine => text = planted_texts::each_by_itself(&text),
+            Plan::LimitByBytes if planted_texts::within_the_bytes(part, &text) => return 0,
+            Plan::RoomForShortLines if planted_texts::room_for_short_lines(&text, out) => return 0,
             _ => {}
         }
-        text::read(part, &text, out).map_or_else(|refusal| refusal.packed(), |filled| 256 * filled as u64)
+        let read = text::read(part, &text, out);
+        if let (Plan::IssuerNotCleared, Ok(filled)) = (self.0, read) {
+            planted_texts::keep_the_rest(&text, &before, out, filled);
+        }
+        read.map_or_else(|refusal| refusal.packed(), |filled| 256 * filled as u64)
     }
 
     fn write(&self, part: Part, bytes: &[u8], out: &mut [u8]) -> u64 {
-        let result = text::write(part, bytes, out);
-        if let (Ok(filled), Plan::SmallLetter) = (result, self.0) {
-            out[..filled].make_ascii_lowercase();
+        let mut result = text::write(part, bytes, out);
+        match (&mut result, self.0) {
+            (Ok(filled), Plan::SmallLetter) => out[..*filled].make_ascii_lowercase(),
+            (Ok(filled), Plan::WrittenShort) => *filled = planted_texts::cut_short(out, *filled),
+            _ => {}
         }
         result.map_or_else(|refusal| refusal.packed(), |filled| 256 * filled as u64)
     }
@@ -348,9 +379,12 @@ impl Judge for Model {
     }
 
     fn judge_request(&self, request: &[u8]) -> u64 {
-        let extra = u64::from(self.0 == Plan::CountWrong && request.len() == 16 * 64);
-        judge::request(request)
-            .map_or_else(|refused| refused.refusal.packed(), |entries| 256 * (entries as u64 - extra))
+        let extra = u64::from(self.0 == Plan::CountWrong && request.len() == LENGTH * MOST_ENTRIES);
+        match judge::request(request) {
+            Ok(entries) => 256 * (entries as u64 - extra),
+            Err(refused) if self.passes_over(&refused.causes) => 0,
+            Err(refused) => refused.refusal.packed(),
+        }
     }
 }
 
@@ -371,7 +405,7 @@ impl Host for Model {
     }
 }
 
-/// A stand-in for the rig. Its programme is the number of records and two entries a record; a step looks at one
+/// A stand-in for the rig. Its programme is the number of records and three entries a record; a step looks at one
 /// record or puts one obligation into its place, and the last step finishes. A damaged programme meets 8 after 0, 1
 /// or 2 steps.
 impl Rig for Model {
@@ -381,10 +415,10 @@ impl Rig for Model {
             Ok(accepted) if programme.len() < 8 * accepted.records + 8 => too_short().packed(),
             Ok(accepted) => {
                 programme[0] = accepted.records as u64;
-                for (entry, bytes) in programme[1..].iter_mut().zip(book.chunks(8)) {
-                    *entry = u64::from_be_bytes(bytes.try_into().unwrap());
+                for (entries, record) in programme[1..].chunks_mut(OF_A_RECORD).zip(records(book)) {
+                    entries.copy_from_slice(&entries_of(&record));
                 }
-                256 * (2 * accepted.records as u64 + 1)
+                256 * (OF_A_RECORD * accepted.records + 1) as u64
             }
         }
     }
@@ -429,7 +463,7 @@ impl Rig for Model {
     }
 
     fn place(&self, state: &[u64]) -> usize {
-        1 + 2 * First::of(state[0]).taken as usize
+        1 + OF_A_RECORD * First::of(state[0]).taken as usize
     }
 
     fn outside(&self, random: &mut Random, of_sum: bool, programme: &mut Vec<u64>, at: usize) {
@@ -438,8 +472,7 @@ impl Rig for Model {
     }
 
     fn piece(&self, programme: &[u64], at: usize) -> Option<&'static str> {
-        let bytes: Vec<u8> = programme.get(at..at + 2)?.iter().flat_map(|entry| entry.to_be_bytes()).collect();
-        let record = *records(&bytes).first().filter(|_| at % 2 == 1)?;
+        let record = record_of(programme.get(at..at + OF_A_RECORD).filter(|_| at % OF_A_RECORD == 1)?);
         match record.kind() {
             _ if record.is_operator() => Some(Operator::of(record.choice()).name()),
             VALUE => Some(record.name()),
@@ -448,9 +481,23 @@ impl Rig for Model {
     }
 }
 
-/// The records in a stand-in's programme.
+/// The entries of a record in a stand-in's programme; its bytes are filled up with zeros.
+const OF_A_RECORD: usize = 3;
+
+fn entries_of(record: &Record) -> [u64; OF_A_RECORD] {
+    let mut bytes = [0; 8 * OF_A_RECORD];
+    bytes[..LENGTH].copy_from_slice(&record.0);
+    [0, 1, 2].map(|entry| u64::from_be_bytes(bytes[8 * entry..8 * entry + 8].try_into().unwrap()))
+}
+
+fn record_of(entries: &[u64]) -> Record {
+    let bytes: Vec<u8> = entries.iter().flat_map(|entry| entry.to_be_bytes()).collect();
+    Record(bytes[..LENGTH].try_into().unwrap())
+}
+
+/// The whole records in a stand-in's programme.
 fn book_of(programme: &[u64]) -> Vec<u8> {
-    programme[1..].iter().flat_map(|entry| entry.to_be_bytes()).collect()
+    programme[1..].chunks_exact(OF_A_RECORD).flat_map(|entries| record_of(entries).0).collect()
 }
 
 /// The first number of the stand-in's state: the steps taken, the decision once finished, the number of
@@ -497,9 +544,10 @@ impl Model {
         let deep = refused.causes.iter().any(|cause| cause.0 == "12: too deep");
         let planted = |number| Refusal { number, ..refused.refusal }.packed();
         match self.0 {
-            Plan::NineBeforeFive if number == 5 && line > 1 && book[3] == 1 && book.len() > 16 => {
+            Plan::NineBeforeFive if number == 5 && line > 1 && book[3] == 1 && book.len() > LENGTH => {
                 Refusal { number: 9, part: Part::Book, line: 1 }.packed()
             }
+            _ if self.passes_over(&refused.causes) => 0,
             Plan::DepthNotJudged if deep => 0,
             Plan::DepthBeforePlace if deep && number == 11 => planted(12),
             Plan::NineBelowLine1 if number == 10 => planted(9),
@@ -510,13 +558,23 @@ impl Model {
         }
     }
 
+    /// Whether a stand-in does not refuse what this alone is wrong with.
+    fn passes_over(&self, causes: &[judge::Cause]) -> bool {
+        match (self.0, causes) {
+            (Plan::IssuerAnywhere, [(judge::NO_ISSUER, _)]) => true,
+            (Plan::LastBytesNotJudged, [(judge::LAST_BYTES, _)]) => true,
+            (Plan::MultipleOf16, [(judge::MISFIT, Item::Pair(_, how))]) => *how == judge::MISFITS[0],
+            _ => false,
+        }
+    }
+
     /// What a stand-in that compares values wrongly takes a book and a request for.
     fn misread(&self, book: &[u8], request: &[u8]) -> (Vec<u8>, Vec<u8>) {
         let (mut book, mut request) = (book.to_vec(), request.to_vec());
         let misread = |lines: &mut [u8], type_at: usize, value_type, minus_zero: u64| {
             for line in lines.chunks_exact_mut(LENGTH) {
-                if line[type_at] % MUST_BE_PRESENT == value_type && line[8..] == MINUS_ZERO.to_be_bytes() {
-                    line[8..].copy_from_slice(&minus_zero.to_be_bytes());
+                if line[type_at] % MUST_BE_PRESENT == value_type && line[VALUE_AT] == MINUS_ZERO.to_be_bytes() {
+                    line[VALUE_AT].copy_from_slice(&minus_zero.to_be_bytes());
                 }
             }
         };
@@ -556,7 +614,23 @@ impl Model {
             Plan::LargerCode => planted_codes::larger,
             _ => RIGHT.pick,
         };
-        Ways { apply, pick }
+        Ways { apply, pick, takes: self.takes() }
+    }
+
+    fn takes(&self) -> Takes {
+        match self.0 {
+            Plan::AnyIssuer => planted_issuers::any_issuer,
+            Plan::AnyForAMatch => planted_issuers::any_for_a_match,
+            Plan::AnyForAComparison => planted_issuers::any_for_a_comparison,
+            Plan::AnyForAnAttribute => planted_issuers::any_for_an_attribute,
+            Plan::NobodysToo => planted_issuers::nobodys_too,
+            Plan::EqualAlone => planted_issuers::equal_alone,
+            Plan::SomebodysAlone => planted_issuers::somebodys_alone,
+            Plan::ByTheFirstByte => planted_issuers::by_the_first_byte,
+            Plan::ByTheSecondByte => planted_issuers::by_the_second_byte,
+            Plan::By15Bits => planted_issuers::by_15_bits,
+            _ => RIGHT.takes,
+        }
     }
 
     /// What a tick from this state works towards; nothing where the programme is no book's.
@@ -692,7 +766,9 @@ fn damaged_agree(plan: Plan, count: u64) -> bool {
 #[test]
 fn text_comparison() {
     assert!(text_agrees(Plan::Right, 10_000));
-    for plan in [Plan::SmallLetter, Plan::OneBeforeTwo, Plan::WrittenBeforeJudged, Plan::LastLineFeedNotAsked] {
+    let planted = [Plan::SmallLetter, Plan::OneBeforeTwo, Plan::WrittenBeforeJudged, Plan::LastLineFeedNotAsked];
+    let of_widths = [Plan::WidthOfEachLine, Plan::LimitByBytes, Plan::RoomForShortLines, Plan::IssuerNotCleared];
+    for plan in planted.into_iter().chain(of_widths).chain([Plan::WrittenShort]) {
         assert!(!text_agrees(plan, 3_000), "{plan:?}");
     }
 }
@@ -702,8 +778,9 @@ fn judge_comparison() {
     assert!(judge_agrees(Plan::Right, 100_000));
     let planted =
         [Plan::NineBeforeFive, Plan::DepthNotJudged, Plan::DepthBeforePlace, Plan::NineBelowLine1, Plan::CountWrong];
-    for plan in planted.into_iter().chain([Plan::TypeOfTheSecond, Plan::OperandsByWalking]) {
-        assert!(!judge_agrees(plan, 5_000), "{plan:?}");
+    let of_bytes = [Plan::IssuerAnywhere, Plan::LastBytesNotJudged, Plan::MultipleOf16];
+    for plan in planted.into_iter().chain(of_bytes).chain([Plan::TypeOfTheSecond, Plan::OperandsByWalking]) {
+        assert!(!judge_agrees(plan, 10_000), "{plan:?}");
     }
 }
 
@@ -732,22 +809,36 @@ const CODES: [Plan; 7] = [
     Plan::FailedSumIsMissing,
 ];
 
+/// The errors that tempt in issuers.
+const ISSUERS: [Plan; 10] = [
+    Plan::AnyIssuer,
+    Plan::AnyForAMatch,
+    Plan::AnyForAComparison,
+    Plan::AnyForAnAttribute,
+    Plan::NobodysToo,
+    Plan::EqualAlone,
+    Plan::SomebodysAlone,
+    Plan::ByTheFirstByte,
+    Plan::ByTheSecondByte,
+    Plan::By15Bits,
+];
+
 #[test]
 fn decide_comparison() {
     assert!(decide_agrees(Plan::Right, 50_000));
     let planted = [Plan::OddByteKept, Plan::OrderOfObligations, Plan::ZerosApart, Plan::NamesAsDoubles];
-    for plan in planted.into_iter().chain(SUMS).chain(CODES).chain([Plan::DenyWithCode]) {
+    for plan in planted.into_iter().chain(SUMS).chain(CODES).chain(ISSUERS).chain([Plan::DenyWithCode]) {
         assert!(!decide_agrees(plan, 10_000), "{plan:?}");
     }
 }
 
 #[test]
 fn ticks_comparison() {
-    assert!(ticks_agree(Plan::Right, 14_000));
+    assert!(ticks_agree(Plan::Right, 20_000));
     let planted =
         [Plan::OutputTouchedWhileRunning, Plan::ExtraStep, Plan::EndNotKept, Plan::AnswerTooEarly, Plan::BudgetNotUsed];
     let of_values = [Plan::ZerosApart, Plan::NamesAsDoubles, Plan::OperandLostBetweenTicks];
-    for plan in planted.into_iter().chain(of_values).chain(SUMS).chain(CODES) {
+    for plan in planted.into_iter().chain(of_values).chain(SUMS).chain(CODES).chain(ISSUERS) {
         assert!(!ticks_agree(plan, 5_000), "{plan:?}");
     }
 }

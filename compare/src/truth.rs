@@ -2,6 +2,7 @@
 //! part settles the answer. Each thing met on the way is counted.
 
 use crate::policy::*;
+use crate::record::ANY;
 use crate::status::{self, Lost, Outcome, Pick, Status};
 use crate::sums::{self, Apply};
 use crate::tally::{pairs, words, Item, Tally, Wanted};
@@ -19,9 +20,17 @@ pub struct Ways {
     /// How an operator is carried out.
     pub apply: Apply,
     pub pick: Pick,
+    pub takes: Takes,
 }
 
-pub const RIGHT: Ways = Ways { apply: sums::apply, pick: status::first };
+pub const RIGHT: Ways = Ways { apply: sums::apply, pick: status::first, takes };
+
+/// Whether something of this name that asks for an issuer takes a value that another, or the same, vouches for.
+pub type Takes = fn(&'static str, u16, u16) -> bool;
+
+pub fn takes(_: &'static str, asked: u16, issuer: u16) -> bool {
+    asked == ANY || asked == issuer
+}
 
 pub struct Evaluator<'a> {
     pub attributes: &'a [Attribute],
@@ -66,15 +75,16 @@ impl Evaluator<'_> {
         result
     }
 
-    /// The request values of a key, in request order.
-    pub fn bag(&self, key: Key) -> Vec<Value> {
-        let of_key = self.attributes.iter().filter(|attribute| attribute.key == key);
-        of_key.map(|attribute| attribute.value).collect()
+    /// The request values that something of this name asks for, in request order.
+    pub fn bag(&self, name: &'static str, asked: Asked) -> Vec<Value> {
+        let of_key = self.attributes.iter().filter(|attribute| attribute.key == asked.key);
+        let taken = of_key.filter(|attribute| (self.ways.takes)(name, asked.issuer, attribute.issuer));
+        taken.map(|attribute| attribute.value).collect()
     }
 
     fn matching(&mut self, test: &Test) -> Truth {
         self.look();
-        let bag = self.bag(test.key);
+        let bag = self.bag("match", test.asked);
         if bag.is_empty() && test.must_be_present {
             self.met("match", "empty bag, must be present: Indeterminate");
             self.count_cause("match", "empty bag");
@@ -92,7 +102,7 @@ impl Evaluator<'_> {
     }
 
     fn comparison(&mut self, test: &Test) -> Truth {
-        let bag = self.bag(test.key);
+        let bag = self.bag("comparison", test.asked);
         let presence = if test.must_be_present { "must be present" } else { "may be absent" };
         if let [value] = bag[..] {
             self.met(comparison_group(test.function), relation(test.literal, value));

@@ -7,6 +7,7 @@ use crate::record::*;
 use crate::status::Status;
 use crate::sums::Operator;
 use crate::truth::Truth;
+use crate::vouched;
 
 pub const PERMIT: u8 = 1;
 pub const DENY: u8 = 2;
@@ -15,7 +16,7 @@ pub struct Maker<'r> {
     pub random: &'r mut Random,
     pub entries: Vec<Entry>,
     /// The attributes asked for; each has an identifier of its own.
-    asked: u16,
+    pub asked: u16,
 }
 
 /// What a part is to be: one of two that are Indeterminate, or another one before, between or after them.
@@ -70,13 +71,22 @@ impl<'r> Maker<'r> {
         }
     }
 
-    /// A record that asks for an attribute which the request has so many times.
+    /// A record that asks for an attribute which the request has so many times, often beside values of other issuers.
     fn ask(&mut self, mut asks: Record, category: u8, type_byte: u8, value: Value, times: usize) -> Vec<Record> {
+        asks.set_issuer(vouched::anybody(self.random));
+        let issuers = vouched::of_values(self.random, asks.issuer(), times);
+        let values = issuers.into_iter().map(|issuer| (value, issuer)).collect();
+        self.ask_for(asks, category, type_byte, values)
+    }
+
+    /// A record that asks for an attribute which the request has with these values, each by its issuer.
+    pub fn ask_for(&mut self, mut asks: Record, category: u8, type_byte: u8, values: Vec<(Value, u16)>) -> Vec<Record> {
         self.asked += 1;
         asks.0[4..6].copy_from_slice(&[category, type_byte]);
         asks.0[6..8].copy_from_slice(&self.asked.to_be_bytes());
-        let entry = Entry::new(category, value.value_type(), self.asked, value.bytes());
-        self.entries.extend((0..times).map(|_| entry));
+        for (value, issuer) in values {
+            self.entries.push(Entry::new(category, value.value_type(), self.asked, value.bytes()).by(issuer));
+        }
         vec![asks]
     }
 
@@ -96,7 +106,7 @@ impl<'r> Maker<'r> {
         let (type_byte, value) = self.any_of(value_type);
         let function = if value_type == NAME { 1 } else { self.random.pick(functions) };
         let mut asks = record(CONDITION, COMPARISON + function);
-        asks.0[8..].copy_from_slice(&value.bytes());
+        asks.set_value(value.bytes());
         let category = self.random.between(1, 4) as u8;
         self.ask(asks, category, type_byte, value, times)
     }
@@ -205,7 +215,7 @@ impl<'r> Maker<'r> {
             Truth::Unknown(_) => (1, value_type + MUST_BE_PRESENT, 0),
         };
         let mut asks = record(MATCH, function);
-        asks.0[8..].copy_from_slice(&value.bytes());
+        asks.set_value(value.bytes());
         self.ask(asks, category, type_byte, value, times)
     }
 
@@ -306,6 +316,6 @@ pub fn section(category: u8, conjunctions: &[Vec<Record>]) -> Vec<Record> {
 pub fn literal(value: Value) -> Vec<Record> {
     let mut made = record(VALUE, LITERAL);
     made.0[5] = value.value_type();
-    made.0[8..].copy_from_slice(&value.bytes());
+    made.set_value(value.bytes());
     vec![made]
 }

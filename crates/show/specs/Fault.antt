@@ -101,6 +101,10 @@ otherOperands = 26
 abbrev pub otherPair : ℕ
 otherPair = 27
 
+-- a byte behind the issuer of a match or comparison
+abbrev pub testByte : ℕ
+testByte = 28
+
 -- kind and choice, where the two are in no row of the table
 unfoldable pub kindFault : ℕ → ℕ
 kindFault k = if (either (eqb k 10) (among 1 8 k)) noChoice noKind
@@ -123,8 +127,8 @@ valueFault Name = nameOrdered
 valueFault Double = notFinite
 valueFault Other = noType
 
-unfoldable pub comparesFault : ℕ → ℕ → Sort → ℕ
-comparesFault span c t = categoryFault c (if (eqb span 1) (valueFault t) somethingBelow)
+unfoldable pub comparesFault : ℕ → ℕ → Sort → ℕ → ℕ
+comparesFault span c t unused = categoryFault c (if (eqb span 1) (if (eqb unused 0) (valueFault t) testByte) somethingBelow)
 
 -- a literal, by the bytes that it does not use and its type: an integer or a name has no other fault
 abbrev pub literalValueFault : Sort → ℕ
@@ -153,13 +157,13 @@ fieldFault b i Policy = plainFault (spanOf b i) 1
 fieldFault b i Rule = plainFault (spanOf b i) 1
 fieldFault b i Section = sectionFault (spanOf b i) (byteOf b i 4)
 fieldFault b i Conjunction = plainFault (spanOf b i) 2
-fieldFault b i Match = comparesFault (spanOf b i) (byteOf b i 4) (typeAt b i)
+fieldFault b i Match = comparesFault (spanOf b i) (byteOf b i 4) (typeAt b i) (bigOf b (i * size + 18) 2)
 fieldFault b i Logic = plainFault (spanOf b i) 1
 fieldFault b i Not = plainFault (spanOf b i) 2
-fieldFault b i Comparison = comparesFault (spanOf b i) (byteOf b i 4) (typeAt b i)
+fieldFault b i Comparison = comparesFault (spanOf b i) (byteOf b i 4) (typeAt b i) (bigOf b (i * size + 18) 2)
 fieldFault b i Weighing = plainFault (spanOf b i) 1
 fieldFault b i Obligation = if (eqb (spanOf b i) 1) obligationByte somethingBelow
-fieldFault b i Literal = literalFault (spanOf b i) (byteOf b i 4 + bigOf b (i * size + 6) 2) (typeOf (byteOf b i 5))
+fieldFault b i Literal = literalFault (spanOf b i) (byteOf b i 4 + bigOf b (i * size + 6) 2 + bigOf b (i * size + 16) 4) (typeOf (byteOf b i 5))
 fieldFault b i Attribute = attributeFault (spanOf b i) (byteOf b i 4) (typeAt b i)
 fieldFault b i Operator = plainFault (spanOf b i) 1
 fieldFault b i Nothing = kindFault (byteOf b i 0)

@@ -9,7 +9,7 @@ ghost use mathlib.Core.Path.{_≡_};
 ghost use Prim.Native.Nat.{_+_, _*_, _≤_};
 ghost use lib.ListN.{length};
 ghost use Rattle.record.specs.Bytes.{size};
-ghost use Rattle.fields.specs.declared.Kind.the-variants.{Literal};
+ghost use Rattle.fields.specs.declared.Kind.the-variants.{Match, Literal};
 ghost use Rattle.show.specs.Fault.{kindFault, plainFault, categoryFault, sectionFault, valueFault, comparesFault, literalValueFault, literalFault, attributeValueFault, attributeFault, fieldFault, conditionFault, childFault, operandsFault, hasOperands, placeFault, faultOf};
 ghost use Rattle.show.specs.Written.{Inside};
 
@@ -70,6 +70,9 @@ const OTHER_OPERANDS: usize = 26;
 
 const OTHER_PAIR: usize = 27;
 
+// A byte behind the issuer of a match or comparison.
+const TEST_BYTE: usize = 28;
+
 // A fault in words: the phrases stand in the order of the numbers above.
 pub fn fault_words(fault: usize, l: Line) -> Line
     ensures { λ r. ⌜ Inside r ⌝ }
@@ -84,9 +87,9 @@ pub fn fault_words(fault: usize, l: Line) -> Line
           |byte 5 is no type, 1 to 3, or 129 to 131\
           |its double is not finite\
           |a name is compared by equal alone\
-          |a byte that its kind does not use, of 4 to 15, is not zero\
-          |a byte that its kind does not use, of 5 to 15, is not zero\
-          |a byte that its kind does not use, of 4, 5 and 8 to 15, is not zero\
+          |a byte that its kind does not use, of 4 to 19, is not zero\
+          |a byte that its kind does not use, of 5 to 19, is not zero\
+          |a byte that its kind does not use, of 4, 5 and 8 to 19, is not zero\
           |line 1 is no policy set and no policy\
           |its span is not the number of records\
           |it runs past its parent's end\
@@ -98,10 +101,11 @@ pub fn fault_words(fault: usize, l: Line) -> Line
           |obligations stand last\
           |it is nested deeper than 16\
           |byte 5 is no type, 1 to 3\
-          |a byte that its kind does not use, of 4, 6 and 7, is not zero\
-          |a byte that its kind does not use, of 8 to 15, is not zero\
+          |a byte that its kind does not use, of 4, 6, 7 and 16 to 19, is not zero\
+          |a byte that its kind does not use, of 8 to 15, 18 and 19, is not zero\
           |an operator has exactly two values of its type below it\
-          |exactly two values of one type are compared, names by equal alone",
+          |exactly two values of one type are compared, names by equal alone\
+          |a byte behind its issuer, 18 or 19, is not zero",
         fault,
     )
 }
@@ -158,11 +162,23 @@ fn value_fault(t: Sort) -> usize
     }
 }
 
-// .. of a match or comparison.
-fn compares_fault(span: usize, category: usize, t: Sort) -> usize
-    ensures { λ r. ⌜ r ≡ comparesFault span category t ⌝ }
+// .. of a match or comparison; `unused` is 0 where the bytes behind its issuer are.
+fn compares_fault(span: usize, category: usize, t: Sort, unused: usize) -> usize
+    ensures { λ r. ⌜ r ≡ comparesFault span category t unused ⌝ }
 {
-    category_fault(category, choose(span == 1, value_fault(t), SOMETHING_BELOW))
+    let inside = choose(unused == 0, value_fault(t), TEST_BYTE);
+    category_fault(category, choose(span == 1, inside, SOMETHING_BELOW))
+}
+
+// .. of record i, a match or comparison.
+fn test_at(book: &[u8], i: usize) -> usize
+    requires { ⌜ (i + 1) * size ≤ length (now book) ⌝ }
+    ensures { λ r. ⌜ r ≡ fieldFault (now (book .entry)) i Match ⌝ }
+{
+    let unused = record::big2(book, i * record::SIZE + 18) as usize;
+    let t = fields::type_at(book, i);
+    let category = record::byte(book, i, 4);
+    compares_fault(record::span(book, i), category, t, unused)
 }
 
 // .. of a literal, by its type.
@@ -193,7 +209,8 @@ fn literal_at(book: &[u8], i: usize) -> usize
     ensures { λ r. ⌜ r ≡ fieldFault (now (book .entry)) i Literal ⌝ }
 {
     let rest = record::big2(book, i * record::SIZE + 6) as usize;
-    let unused = record::byte(book, i, 4) + rest;
+    let issuer = record::big4(book, i * record::SIZE + 16) as usize;
+    let unused = record::byte(book, i, 4) + rest + issuer;
     let t = fields::type_of(record::byte(book, i, 5));
     literal_fault(record::span(book, i), unused, t)
 }
@@ -234,10 +251,10 @@ fn field_fault(book: &[u8], i: usize, k: Kind) -> usize
         Kind::Rule => plain_fault(span, 1),
         Kind::Section => section_fault(span, category),
         Kind::Conjunction => plain_fault(span, 2),
-        Kind::Match => compares_fault(span, category, t),
+        Kind::Match => test_at(book, i),
         Kind::Logic => plain_fault(span, 1),
         Kind::Not => plain_fault(span, 2),
-        Kind::Comparison => compares_fault(span, category, t),
+        Kind::Comparison => test_at(book, i),
         Kind::Weighing => plain_fault(span, 1),
         Kind::Obligation => choose(span == 1, OBLIGATION_BYTE, SOMETHING_BELOW),
         Kind::Literal => literal_at(book, i),

@@ -63,10 +63,7 @@ fn lines_before(refusal: Refusal) -> usize
 
 // Prints the first n lines of a text, as far as they keep the field rules.
 fn show_lines(text: &[u8], records: &mut [u8], n: usize) {
-    if text.len() / text::LINE < n {
-        return;
-    }
-    let end = text::LINE * n;
+    let end = text::lines_end(text, n);
     match text::read_book(&text[..end], records) {
         Filled::Places(m) => show_kept(&records[..m]),
         Filled::Refused(_) => {}

@@ -100,6 +100,18 @@ fn value(book: &[u8], i: usize, l: Line) -> Line
     }
 }
 
+// The issuer that record i asks for, where it asks for one.
+fn issuer(book: &[u8], i: usize, l: Line) -> Line
+    requires { ⌜ ((i + 1) * size ≤ length (now book)) × Inside l ⌝ }
+    ensures { λ r. ⌜ Inside r ⌝ }
+{
+    let number = record::big2(book, i * record::SIZE + 16);
+    if number == 0 {
+        return l;
+    }
+    l.words(b" of issuer ").decimal(number as usize)
+}
+
 // A value that stands by itself at record i: a literal, or an attribute.
 fn simple(book: &[u8], i: usize, l: Line) -> Line
     requires { ⌜ ((i + 1) * size ≤ length (now book)) × Inside l ⌝ }
@@ -111,8 +123,9 @@ fn simple(book: &[u8], i: usize, l: Line) -> Line
     }
     let category = record::byte(book, i, 4);
     let number = record::big2(book, i * record::SIZE + 6);
-    l.phrase(b"|subject |resource |action |environment ", category)
-        .decimal(number as usize)
+    let named = l.phrase(b"|subject |resource |action |environment ", category)
+        .decimal(number as usize);
+    issuer(book, i, named)
 }
 
 // What stands between two values: an operator, or how they are compared.
@@ -198,6 +211,7 @@ fn part(book: &[u8], i: usize, letter: u8, l: Line) -> Line
             b"|equal to|greater than|greater than or equal to|less than|less than or equal to",
             choice % 10,
         ),
+        b'I' => issuer(book, i, l),
         b'L' => l.phrase(b"|and|or|not", choice),
         b'M' => l.phrase(b"|, must be present", sort / 128),
         b'N' => l.decimal(number as usize),
@@ -235,12 +249,12 @@ pub fn record_words(book: &[u8], i: usize, l: Line) -> Line
           |rule: E\
           |section: C\
           |conjunction\
-          |match: T V is F C NM\
+          |match: T V is F C NIM\
           |condition: L\
           |obligation N on E\
-          |condition: T V is F C NM\
+          |condition: T V is F C NIM\
           |value: T V\
-          |value: T C NM\
+          |value: T C NIM\
           |value: X\
           |condition: X",
         sentence(book, i),

@@ -47,10 +47,10 @@ pub fn refusal_line(refusal: Refusal) -> Line
     ensures { λ r. ⌜ Inside r ⌝ }
 {
     let l = refused(refusal.line, refusal.number).phrase(
-        b"|the line is not 32 hexadecimal digits and a line feed\
+        b"|the line is not 40 hexadecimal digits and a line feed, or 32 where line 1 has 32\
           |there are more than 1,000 records\
           |there is no record: the book is empty, or there is no BOOK.HEX\
-          |the bytes are not a multiple of 16\
+          |the bytes are not a multiple of 20\
           |\
           |\
           |there is no room",

@@ -1,10 +1,10 @@
 -- Where lines begin, and how many bytes they say: laws of `specs/Text.antt`'s `start` and `width`. Assumes nothing.
-use mathlib.Core.Path.{_≡_, refl}
+use mathlib.Core.Path.{_≡_, refl, sym, _∙_}
 use mathlib.Core.Bool.{Bool, true, false}
 use mathlib.Core.List.{List}
 use mathlib.Core.Logic.{_⊎_, inl, inr}
-use Prim.Native.Nat.{ℕ, _+_, _*_, _/_, _%_, _<_, _≤_}
-use native.Mathlib.Nat.{mul-le-mul-left, mul-le-mul-right}
+use Prim.Native.Nat.{ℕ, _+_, _*_, _/_, _%_, _<_, _≤_, min}
+use native.Mathlib.Nat.{mul-comm, mul-le-mul-left, mul-le-mul-right, le-div-iff-mul-le, div-lt-iff-lt-mul, min-eq-left, min-eq-right}
 use native.Mathlib.Omega.{arith}
 use borrow.Author.Tests.{lt-ltb, le-ltb, eq-eqb, ne-eqb}
 use lib.Dec.{eqb}
@@ -43,6 +43,22 @@ start-least w n h = let g : size ≤ lineLength w = omega arith in mul-le-mul-ri
 pub start-most : (w n : ℕ) → w ≤ size → start w n ≤ lineLength size * n
 unfolding start
 start-most w n h = let g : lineLength w ≤ lineLength size = omega arith in mul-le-mul-right n g
+
+-- where the first n lines of a text end
+module _ (w long n : ℕ) where
+  some : 0 < lineLength w
+  some = omega arith
+
+  pub lines-beyond : long / lineLength w < n → long ≡ min (start w n) long
+  unfolding start
+  lines-beyond h = let g : long < n * lineLength w = div-lt-iff-lt-mul some .0 h in sym (min-eq-right (omega (arith, g, mul-comm n (lineLength w))))
+
+  pub lines-within : n ≤ long / lineLength w → n * lineLength w ≤ long
+  lines-within h = le-div-iff-mul-le some .0 h
+
+  pub lines-end : n ≤ long / lineLength w → n * lineLength w ≡ min (start w n) long
+  unfolding start
+  lines-end h = mul-comm n (lineLength w) ∙ sym (min-eq-left (omega (arith, lines-within h, mul-comm n (lineLength w))))
 
 -- there are two widths
 pub width-short : (s : List ℕ) → getD s (digits shortSize) 0 ≡ lf → width s ≡ shortSize

@@ -2,13 +2,13 @@
 use record::Refusal;
 ghost use mathlib.Core.Path.{_≡_};
 ghost use mathlib.Core.List.{_++_};
-ghost use Prim.Native.Nat.{_<_, _≤_, _+_, _*_, _/_};
+ghost use Prim.Native.Nat.{_<_, _≤_, _+_, _*_, _/_, min};
 ghost use lib.ListN.{length, drop};
 ghost use Rattle.record.specs.Bytes.{size};
 ghost use Rattle.record.specs.Below.{allBelow};
 ghost use Rattle.record.specs.Table.{tab};
 ghost use Rattle.text.specs.Hex.{digitOf, isDigit, digitValue, letterOf};
-ghost use Rattle.text.specs.Text.{book, request, missing, shortSize, digits, lineLength, start, width, digitAt, goodLine, judgeFrom, byteAt, textAt, readOf, writeOf, outputAfter};
+ghost use Rattle.text.specs.Text.{book, request, missing, lineLength, start, width, digitAt, goodLine, judgeFrom, byteAt, textAt, readOf, writeOf, outputAfter};
 
 // The bytes that a line says without the issuer's.
 const SHORT: usize = 16;
@@ -118,6 +118,17 @@ fn width(text: &[u8]) -> usize
         return SHORT;
     }
     record::SIZE
+}
+
+// Where the first n lines of a text end; the text's own end, where it has fewer.
+pub fn lines_end(text: &[u8], n: usize) -> usize
+    ensures { λ r. ⌜ (r ≡ min (start (width (now (text .entry))) n) (length (now (text .entry)))) × (r ≤ length (now (text .entry))) ⌝ }
+{
+    let line = 2 * width(text) + 1;
+    if text.len() / line < n {
+        return text.len();
+    }
+    n * line
 }
 
 // Whether so many digits stand at this place.

@@ -18,8 +18,7 @@ pub show-lines-spec : {M : Type 1} → statement M
 show-lines-spec =
     tie.close
     (tie.spec
-    (λ c. search needs)
-    (λ c. search needs)
+    (λ c κs. search needs)
     slice-aggregate-read-book
     (λ c κs. search needs)
     (λ c. search needs)

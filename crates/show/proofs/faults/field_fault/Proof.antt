@@ -20,9 +20,7 @@ returns-5 : tie.Need-returns-5
 returns-5 c = rw (c .before .enum-told5 .given .1, ← c .before .before .before .before .before .span .ensures .0) (c .plain-fault4 .ensures)
 
 returns-6 : tie.Need-returns-6
-returns-6 c =
-    let typed = c .before .before .before in
-    rw (c .before .enum-told6 .given .1, ← typed .before .before .span .ensures .0, ← typed .before .byte .ensures .0, ← typed .type-at .ensures) (c .compares-fault .ensures)
+returns-6 c = rw (c .before .enum-told6 .given .1) (c .test-at .ensures)
 
 returns-7 : tie.Need-returns-7
 returns-7 c = rw (c .before .enum-told7 .given .1, ← c .before .before .before .before .before .span .ensures .0) (c .plain-fault5 .ensures)
@@ -31,9 +29,7 @@ returns-8 : tie.Need-returns-8
 returns-8 c = rw (c .before .enum-told8 .given .1, ← c .before .before .before .before .before .span .ensures .0) (c .plain-fault6 .ensures)
 
 returns-9 : tie.Need-returns-9
-returns-9 c =
-    let typed = c .before .before .before in
-    rw (c .before .enum-told9 .given .1, ← typed .before .before .span .ensures .0, ← typed .before .byte .ensures .0, ← typed .type-at .ensures) (c .compares-fault2 .ensures)
+returns-9 c = rw (c .before .enum-told9 .given .1) (c .test-at2 .ensures)
 
 returns-10 : tie.Need-returns-10
 returns-10 c = rw (c .before .enum-told10 .given .1, ← c .before .before .before .before .before .span .ensures .0) (c .plain-fault7 .ensures)
