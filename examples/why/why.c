@@ -6,13 +6,21 @@
 #include <bachumoi.h>
 
 #include <stdio.h>
+#include <string.h>
 
-/* Reads pairs of hexadecimal digits; returns how many bytes they give. */
-static size_t read_bytes(FILE *file, uint8_t *bytes, size_t most)
+/* Reads lines of hexadecimal digits, a record each: 40 digits, or 32 without the issuer, whose bytes are then zero. Returns
+ * how many bytes they give. That all lines are of one length is the programs' to judge. */
+static size_t read_records(FILE *file, uint8_t *bytes, size_t most)
 {
+    char line[2 * BACHUMOI_RECORD + 2];
     size_t len = 0;
-    while (len < most && fscanf(file, "%2hhx", &bytes[len]) == 1)
-        len++;
+    while (len < most && fgets(line, sizeof line, file)) {
+        memset(bytes + len, 0, BACHUMOI_RECORD);
+        for (size_t i = 0; i < BACHUMOI_RECORD; i++)
+            if (sscanf(line + 2 * i, "%2hhx", &bytes[len + i]) != 1)
+                break;
+        len += BACHUMOI_RECORD;
+    }
     return len;
 }
 
@@ -53,8 +61,8 @@ int main(void)
     static uint8_t book[(BACHUMOI_MOST_RECORDS + 1) * BACHUMOI_RECORD];
     static uint8_t request[(BACHUMOI_MOST_ENTRIES + 1) * BACHUMOI_RECORD], out[2 * BACHUMOI_MOST_RECORDS];
     FILE *file = fopen("BOOK.HEX", "r");
-    size_t book_len = file ? read_bytes(file, book, sizeof book) : 0;
-    size_t request_len = read_bytes(stdin, request, sizeof request);
+    size_t book_len = file ? read_records(file, book, sizeof book) : 0;
+    size_t request_len = read_records(stdin, request, sizeof request);
     if (file)
         fclose(file);
 

@@ -82,8 +82,11 @@ module _ (b : List ℕ) (i : ℕ) {y : ℕ} (ey : y ≡ bigOf b (i * size + 8) 8
   pub back-front : (y ≡ 0 → ⊥) → false ≡ zeros b i 8 size
   back-front n = rw (zeros-split b i 8 8 (size - 16), zeros-big b i 8 16, ← ey, ne-eqb y 0 n)
 
-  pub back-rest : y ≡ 0 → {z : ℕ} → z ≡ bigOf b (i * size + 16) 4 → eqb z 0 ≡ zeros b i 8 size
-  back-rest e ez = rw (zeros-split b i 8 8 (size - 16), zeros-big b i 8 16, zeros-big b i 16 size, ← ey, ← ez, eq-eqb y 0 e)
+  pub back-rest : y ≡ 0 → {z : Bool} → z ≡ zeros b i 16 size → z ≡ zeros b i 8 size
+  back-rest e ez = rw (zeros-split b i 8 8 (size - 16), zeros-big b i 8 16, ← ey, eq-eqb y 0 e) ez
+
+pub issuer-is : (b : List ℕ) (i : ℕ) {z : ℕ} → z ≡ bigOf b (i * size + 16) 4 → eqb z 0 ≡ zeros b i 16 size
+issuer-is b i ez = rw (zeros-big b i 16 size, ← ez)
 
 pub end-is : (b : List ℕ) (i : ℕ) {z : ℕ} → z ≡ bigOf b (i * size + 18) 2 → eqb z 0 ≡ zeros b i 18 size
 end-is b i ez = rw (zeros-big b i 18 size, ← ez)
@@ -200,10 +203,9 @@ module _ (b : List ℕ) (i : ℕ) {t : ℕ} (et : t ≡ spanOf b i) where
         unfolding literalOk
         literal-name m = rw (← et, eq-eqb t 1 h, zeros-one b i 4, ← ew, eq-eqb w 0 z, ← ec, ← ek, ← en, ← ev, q, zeros-big b i 6 8, ← ex, ne-eqb x 0 m)
 
-        pub literal-rest : x ≡ 0 → {y : ℕ} → y ≡ bigOf b (i * size + 16) 4 → eqb y 0 ≡ literalOk b i
+        pub literal-rest : x ≡ 0 → {y : Bool} → y ≡ zeros b i 16 size → y ≡ literalOk b i
         unfolding literalOk
-        literal-rest e ey =
-            rw (← et, eq-eqb t 1 h, zeros-one b i 4, ← ew, eq-eqb w 0 z, ← ec, ← ek, ← en, ← ev, q, zeros-big b i 6 8, ← ex, eq-eqb x 0 e, zeros-big b i 16 size, ← ey)
+        literal-rest e ey = rw (← et, eq-eqb t 1 h, zeros-one b i 4, ← ew, eq-eqb w 0 z, ← ec, ← ek, ← en, ← ev, q, zeros-big b i 6 8, ← ex, eq-eqb x 0 e) ey
 
 -- an attribute
 module _ (b : List ℕ) (i : ℕ) {t : ℕ} (et : t ≡ spanOf b i) where

@@ -155,6 +155,14 @@ fn function_ok(t: Sort, f: usize) -> bool
     }
 }
 
+// Whether the bytes of record i from its issuer on are zero.
+fn no_issuer(book: &[u8], i: usize) -> bool
+    requires { ⌜ (i + 1) * size ≤ length (now book) ⌝ }
+    ensures { λ r. ⌜ r ≡ zeros (now (book .entry)) i 16 size ⌝ }
+{
+    big4(book, i * SIZE + 16) == 0
+}
+
 // Whether the bytes of record i from 8 on are zero.
 fn back_zero(book: &[u8], i: usize) -> bool
     requires { ⌜ (i + 1) * size ≤ length (now book) ⌝ }
@@ -163,7 +171,7 @@ fn back_zero(book: &[u8], i: usize) -> bool
     if big8(book, i * SIZE + 8) != 0 {
         return false;
     }
-    big4(book, i * SIZE + 16) == 0
+    no_issuer(book, i)
 }
 
 // Whether the bytes of record i behind its issuer are zero.
@@ -260,7 +268,7 @@ pub fn literal_ok(book: &[u8], i: usize) -> bool
     if big2(book, i * SIZE + 6) != 0 {
         return false;
     }
-    big4(book, i * SIZE + 16) == 0
+    no_issuer(book, i)
 }
 
 // An attribute.

@@ -29,7 +29,7 @@ returns-5 c =
     let valued = name .before .before in
     let front = valued .before .before .before .before .before in
     let spanned = front .before .before in
-    literal-rest _ _ (spanned .before .span .ensures .0) (spanned .if1 .left) (front .before .byte .ensures .0) (front .if2 .left) (valued .before .before .before .before .byte2 .ensures .0) (valued .before .before .before .type-of .ensures) (valued .before .before .is-finite .ensures) (valued .before .value-ok .ensures) (not-false _ (valued .if3 .left)) (name .before .big2 .ensures) (name .if4 .left) (c .big4 .ensures)
+    literal-rest _ _ (spanned .before .span .ensures .0) (spanned .if1 .left) (front .before .byte .ensures .0) (front .if2 .left) (valued .before .before .before .before .byte2 .ensures .0) (valued .before .before .before .type-of .ensures) (valued .before .before .is-finite .ensures) (valued .before .value-ok .ensures) (not-false _ (valued .if3 .left)) (name .before .big2 .ensures) (name .if4 .left) (c .no-issuer .ensures)
 
 pub literal-ok-spec : {M : Type 1} → statement M
 literal-ok-spec =
@@ -48,7 +48,5 @@ literal-ok-spec =
     (λ c. search needs)
     (λ c κs. search needs)
     returns-4
-    (λ c. search needs)
-    (λ c. search needs)
     (λ c κs. search needs)
     returns-5)

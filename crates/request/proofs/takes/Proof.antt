@@ -1,5 +1,5 @@
 use borrow.Author.Needs.{needs}
-use Rattle.request.proofs.Laws.{takes-apart, takes-any, takes-own}
+use Rattle.request.proofs.Laws.{takes-apart, takes-by}
 use Rattle.request.proofs.takes.Statement.{statement}
 use Rattle.request.proofs.takes.Tie as tie
 
@@ -7,10 +7,7 @@ returns : tie.Need-returns
 returns c = takes-apart _ _ _ (search needs) (c .before .big4 .ensures) (c .if1 .taken)
 
 returns-2 : tie.Need-returns-2
-returns-2 c = takes-any _ _ _ (search needs) (c .before .before .big4 .ensures) (c .before .if1 .left) (c .if2 .taken)
-
-returns-3 : tie.Need-returns-3
-returns-3 c = takes-own _ _ _ (search needs) (c .before .before .before .big4 .ensures) (c .before .before .if1 .left) (c .before .if2 .left) (c .big2 .ensures)
+returns-2 c = takes-by _ _ _ (search needs) (c .before .before .before .big4 .ensures) (c .before .before .if1 .left) (c .before .big2 .ensures) (c .takes-issuer .ensures)
 
 pub takes-spec : {M : Type 1} → statement M
 takes-spec =
@@ -20,9 +17,9 @@ takes-spec =
     (λ c κs. search needs)
     (λ c. search needs)
     returns
-    returns-2
     (λ c. search needs)
     (λ c. search needs)
     (λ c κs. search needs)
     (λ c. search needs)
-    returns-3)
+    (λ c κs. search needs)
+    returns-2)
