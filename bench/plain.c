@@ -37,68 +37,57 @@ static inline bool value_fits(unsigned type, uint64_t value)
     return from_to(INTEGER, type, DOUBLE) && (type != DOUBLE || is_finite(value));
 }
 
-static inline uint64_t eight_bytes(const uint8_t *p)
-{
-    uint64_t bytes;
-    memcpy(&bytes, p, sizeof bytes);
-    return bytes;
-}
-
-/* Whether a record has only zeros from this byte on, one of 4 to 12: two times eight bytes cover them. */
-static inline bool is_zero_from(const uint8_t *record, unsigned first)
-{
-    return (eight_bytes(record + first) | eight_bytes(record + SIZE - 8)) == 0;
-}
-
 /* Bytes 16 to 19 of a record or entry that may have an issuer. */
-static inline bool issuer_fits(const uint8_t *at)
+static inline bool issuer_fits(uint32_t last)
 {
-    return big2(at + ISSUER + 2) == 0;
+    return (last & 0xFFFF) == 0;
 }
 
-/* Bytes 4 to 19 of a match or a comparison. */
-static inline bool attribute_fits(unsigned function, const uint8_t *record)
+/* Bytes 4 to 19 of a match or a comparison; the last four are its issuer and two zeros. */
+static inline bool attribute_fits(unsigned function, uint32_t key, uint64_t value, uint32_t last)
 {
-    unsigned type = record[5] & ~MUST_BE_PRESENT;
-    return from_to(1, record[4], 4) && value_fits(type, big8(record + 8)) && (type != NAME || function == EQUAL) &&
-           issuer_fits(record);
+    unsigned type = key >> 16 & 127;    /* without must-be-present */
+    return from_to(1, key >> 24, 4) && value_fits(type, value) && (type != NAME || function == EQUAL) &&
+           issuer_fits(last);
 }
 
 /* Bytes 2 to 19 of a value. */
-static inline __attribute__((always_inline)) bool operand_fits(unsigned choice, unsigned span, const uint8_t *record)
+static inline bool operand_fits(unsigned choice, unsigned span, uint32_t key, uint64_t value, uint32_t last)
 {
-    unsigned type = record[5];
+    unsigned type = key >> 16 & 255;
     if (choice == LITERAL)
-        return span == 1 && record[4] == 0 && value_fits(type, big8(record + 8)) && big2(record + 6) == 0 &&
-               big4(record + ISSUER) == 0;
+        return span == 1 && (key & 0xFF00FFFF) == 0 && value_fits(type, value) && last == 0;
     if (choice == ATTRIBUTE)
-        return span == 1 && from_to(1, record[4], 4) && from_to(INTEGER, type & ~MUST_BE_PRESENT, DOUBLE) &&
-               big8(record + 8) == 0 && issuer_fits(record);
-    return from_to(ADD, choice, DOUBLE_ADD) && span >= 1 && is_zero_from(record, 4);
+        return span == 1 && from_to(1, key >> 24, 4) && from_to(INTEGER, type & 127, DOUBLE) && value == 0 &&
+               issuer_fits(last);
+    return from_to(ADD, choice, DOUBLE_ADD) && span >= 1 && (key | value | last) == 0;
 }
 
 /* Judges a record whose parent is in this state, and moves the state on. */
 static inline __attribute__((always_inline)) unsigned judge_record(const uint8_t *record, unsigned *state)
 {
     unsigned kind = record[0], choice = record[1], span = big2(record + 2), category = record[4], in = *state;
+    uint32_t key = big4(record + 4);
+    uint64_t value = big8(record + 8);
+    uint32_t last = big4(record + ISSUER);
     switch (kind) {
     case SET:
     case POLICY:
-        if (!from_to(1, choice, kind == SET ? 4 : 3) || span < 1 || !is_zero_from(record, 4))
+        if (!from_to(1, choice, kind == SET ? 4 : 3) || span < 1 || (key | value | last) != 0)
             return BROKEN_FIELD;
         if (!from_to(TOP, in, SET_CHILDREN))
             return BROKEN_PLACE;
         *state = SET_CHILDREN;
         return kind == SET ? IN_SET : IN_POLICY;
     case RULE:
-        if (!from_to(1, choice, 2) || span < 1 || !is_zero_from(record, 4))
+        if (!from_to(1, choice, 2) || span < 1 || (key | value | last) != 0)
             return BROKEN_FIELD;
         if (!from_to(IN_POLICY, in, POLICY_RULES))
             return BROKEN_PLACE;
         *state = POLICY_RULES;
         return IN_RULE;
     case SECTION:
-        if (choice != 0 || span < 2 || !from_to(1, category, 4) || !is_zero_from(record, 5))
+        if (choice != 0 || span < 2 || !from_to(1, category, 4) || ((key & 0xFFFFFF) | value | last) != 0)
             return BROKEN_FIELD;
         if (in - IN_POLICY < category)
             *state = IN_POLICY + category;
@@ -110,18 +99,18 @@ static inline __attribute__((always_inline)) unsigned judge_record(const uint8_t
             return BROKEN_PLACE;
         return IN_SECTION + category;
     case CONJUNCTION:
-        if (choice != 0 || span < 2 || !is_zero_from(record, 4))
+        if (choice != 0 || span < 2 || (key | value | last) != 0)
             return BROKEN_FIELD;
         return from_to(IN_SECTION, in, IN_SECTION + 4) ? in - IN_SECTION + IN_CONJUNCTION : BROKEN_PLACE;
     case MATCH:
-        if (!from_to(1, choice, 5) || span != 1 || !attribute_fits(choice, record))
+        if (!from_to(1, choice, 5) || span != 1 || !attribute_fits(choice, key, value, last))
             return BROKEN_FIELD;
         return in == IN_CONJUNCTION + category ? LEAF : BROKEN_PLACE;
     case CONDITION:
         if (from_to(11, choice, 15)
-                ? span != 1 || !attribute_fits(choice - COMPARISON, record)
+                ? span != 1 || !attribute_fits(choice - COMPARISON, key, value, last)
                 : (!from_to(AND, choice, NOT) && !from_to(21, choice, 25)) || span < (choice == NOT ? 2 : 1) ||
-                      !is_zero_from(record, 4))
+                      (key | value | last) != 0)
             return BROKEN_FIELD;
         if (from_to(IN_RULE, in, IN_RULE + 4))
             *state = RULE_CONDITION;
@@ -131,7 +120,7 @@ static inline __attribute__((always_inline)) unsigned judge_record(const uint8_t
             return BROKEN_PLACE;
         return choice > COMPARISON_OF_VALUES ? IN_VALUES : choice > NOT ? LEAF : choice == NOT ? IN_NOT : IN_GROUP;
     case OBLIGATION:
-        if (!from_to(1, choice, 2) || span != 1 || big2(record + 4) != 0 || !is_zero_from(record, 8))
+        if (!from_to(1, choice, 2) || span != 1 || (key >> 16 | value | last) != 0)
             return BROKEN_FIELD;
         if (from_to(IN_POLICY, in, POLICY_OBLIGATIONS))
             *state = POLICY_OBLIGATIONS;
@@ -141,7 +130,7 @@ static inline __attribute__((always_inline)) unsigned judge_record(const uint8_t
             return BROKEN_PLACE;
         return DUTY;
     case VALUE:
-        if (!operand_fits(choice, span, record))
+        if (!operand_fits(choice, span, key, value, last))
             return BROKEN_FIELD;
         return in != IN_VALUES ? BROKEN_PLACE : choice > ATTRIBUTE ? IN_VALUES : LEAF;
     default:
@@ -254,7 +243,7 @@ uint64_t plain_judge_request(const uint8_t *request, size_t request_len)
     for (size_t i = 0; i < entries; i++) {
         const uint8_t *entry = request + i * SIZE;
         if (!from_to(1, entry[0], 4) || !value_fits(entry[1], big8(entry + 8)) || big4(entry + 4) != 0 ||
-            !issuer_fits(entry))
+            !issuer_fits(big4(entry + ISSUER)))
             return refusal(5, OF_REQUEST, i + 1);
     }
     return 0;
