@@ -15,6 +15,7 @@ const ACCEPTED: &str = "text accepted";
 const AGAIN: &str = "text written again";
 const TOGETHER: &str = "book and request";
 const UNLIKE: &str = "line unlike line 1";
+const UNLIKE_AT: &str = "line unlike line 1, of the first eight";
 const LINE_1: &str = "letters of a line 1 that 1 refuses";
 const ENDED: &str = "line 1 of 40 digits that ends after 32";
 const PAST: &str = "line past the limit";
@@ -22,6 +23,7 @@ const NO_ROOM: &str = "text that the output has no room for";
 
 const AFTER: [&str; 2] = ["short after long", "long after short"];
 const PLACES: [&str; 3] = ["at line 2", "in the middle", "at the last line"];
+const FIRST: [&str; 7] = ["line 2", "line 3", "line 4", "line 5", "line 6", "line 7", "line 8"];
 const PAST_WITH: [&str; 3] = ["one byte", "a line", "a line of the other width"];
 
 /// Everything that a run of reading must meet of widths.
@@ -31,6 +33,7 @@ pub fn wanted_widths() -> Wanted {
         (AGAIN, pairs(&PARTS, &NAMES)),
         (TOGETHER, pairs(&NAMES, &NAMES)),
         (UNLIKE, triples(&PARTS, &AFTER, &PLACES)),
+        (UNLIKE_AT, triples(&PARTS, &AFTER, &FIRST)),
         (LINE_1, numbers([0, 31, 32, 33, 39, 40, 41])),
         (ENDED, words(&PARTS)),
         (PAST, triples(&PARTS, &NAMES, &PAST_WITH)),
@@ -77,8 +80,12 @@ fn count_unlike(of: &'static str, text: &[u8], line: usize, tally: &mut Tally) {
         tally.met(LINE_1, letters as u64);
     }
     if line > 1 && read_line(refused, other(width)).is_some() {
+        let after = AFTER[usize::from(width == SHORT)];
         let place = if line == lines.len() { 2 } else { usize::from(line > 2) };
-        tally.met(UNLIKE, (of, AFTER[usize::from(width == SHORT)], PLACES[place]));
+        tally.met(UNLIKE, (of, after, PLACES[place]));
+        if let Some(&at) = FIRST.get(line - 2) {
+            tally.met(UNLIKE_AT, (of, after, at));
+        }
     }
     if line == 2 && lines[0].len() + refused.len() == line_length(LENGTH) {
         tally.met(ENDED, of);
