@@ -9,8 +9,8 @@ use native.Mathlib.Nat.{zero-add, add-zero, add-assoc}
 use native.Mathlib.Omega.{arith}
 use borrow.Author.Tests.{lt-ltb, le-leb, ltb-true, ltb-false}
 use Rattle.record.specs.Choose.{if, either}
-use Rattle.record.specs.Bytes.{size, Bytes, bigOf, mostRecords}
-use Rattle.record.proofs.Laws.{big-two}
+use Rattle.record.specs.Bytes.{size, Bytes, mostRecords}
+use Rattle.record.proofs.Laws.{two-small}
 use Rattle.meaning.specs.Policy.{Tree}
 use Rattle.meaning.specs.Meaning.{Bags, decides, obliges}
 use Rattle.meaning.specs.Reading.{keyAt, testAt, matchAt, comparisonAt, bookOf, bagsOf}
@@ -53,13 +53,6 @@ use Rattle.demand.proofs.Course.{course, fresh-allowed}
 use Rattle.layout.specs.Room.{roomP}
 
 -- keys and numbers that are read from bytes fit
-two-small : (b : List ℕ) → Bytes b → (at : ℕ) → bigOf b at 2 < 65536
-two-small b w at =
-    let e = big-two b at in
-    let a = w at in
-    let c = w (at + 1) in
-    omega (arith, e, a, c)
-
 pub key-small : (b : List ℕ) → Bytes b → (i : ℕ) → keyAt b i < 281474976710656
 unfolding keyAt
 key-small b w i =
