@@ -222,6 +222,19 @@ size_t issuers_request(uint8_t *request, size_t entries)
     return len;
 }
 
+/* ---- A spoilt book ----------------------------------------------------------------------------------------- */
+
+size_t spoilt_book(uint8_t *book, size_t records, size_t *spoilt)
+{
+    size_t len = growth_book(book, records);
+    *spoilt = 0;
+    for (size_t i = 9; i < records / 9; i += 10, ++*spoilt) {
+        uint8_t *policy = book + (1 + 9 * i) * RECORD;
+        memset(policy + (1 + *spoilt % 8) * RECORD, 0, RECORD);
+    }
+    return len;
+}
+
 /* ---- Deep books -------------------------------------------------------------------------------------------- */
 
 enum { DEPTH = 16 };

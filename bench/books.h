@@ -35,6 +35,9 @@ size_t sums_book(uint8_t *book, size_t records);
 size_t issuers_book(uint8_t *book, size_t records);
 size_t issuers_request(uint8_t *request, size_t entries);
 
+/* The growing book with a record of zeros in every tenth policy, each below its head, and how many are so spoilt. */
+size_t spoilt_book(uint8_t *book, size_t records, size_t *spoilt);
+
 /* A book of nesting depth 16: sets of one algorithm, one in the other, and in the innermost what fills the rest. */
 enum filling { SETS, CONDITIONS, OPERATORS, POLICY_TARGET, RULE_TARGET, FILLINGS };
 size_t deep_book(uint8_t *book, unsigned algorithm, unsigned sets, enum filling filling);

@@ -1,8 +1,9 @@
 /* Does one thing once, by one side or by neither: bench/instructions counts what that takes.
- *   once plain|bachumoi|neither judge|decide|translate|run BOOK REQUEST
+ *   once plain|bachumoi|neither judge|salvage|decide|translate|run BOOK REQUEST
  * The files hold bytes, not text: little is done besides what is counted. */
 #include "machine.h"
 #include "plain.h"
+#include "plain_salvage.h"
 
 #include <fcntl.h>
 #include <stdbool.h>
@@ -27,6 +28,13 @@ static struct programme programme;
 static uint64_t judge(bool proved)
 {
     return proved ? probe_judge_book(book, book_len) : plain_judge_book(book, book_len);
+}
+
+static uint64_t salvage(bool proved)
+{
+    static uint8_t mended[MOST_BOOK], replaced[MOST_OUT];
+    return proved ? bachumoi_salvage(book, book_len, mended, MOST_BOOK, replaced, MOST_OUT)
+                  : plain_salvage(book, book_len, mended, MOST_BOOK, replaced, MOST_OUT);
 }
 
 static uint64_t decide(bool proved)
@@ -57,7 +65,8 @@ int main(int count, char **words)
     static const struct {
         const char *name;
         uint64_t (*by)(bool proved);
-    } all[] = { { "judge", judge }, { "decide", decide }, { "translate", translation }, { "run", whole_run } };
+    } all[] = { { "judge", judge }, { "salvage", salvage }, { "decide", decide }, { "translate", translation },
+                { "run", whole_run } };
     if (count != 5)
         return 2;
     book_len = load(words[3], book, MOST_BOOK);

@@ -1,10 +1,11 @@
 /* Tries the plain C of the benchmark on document 01's P1 to P11, its Run line, the two zeros, the sums, the status
- * codes and the issuers of document 02, some refusals, and the examples: decided, and run as a programme. Texts have 32
- * digits a line but where there is an issuer. Run from the top of the repository; built by bench/run. Exit status 0 if
- * all is right, else 1. */
+ * codes and the issuers of document 02, some refusals, and the examples: decided, and run as a programme; and on books
+ * to salvage. Texts have 32 digits a line but where there is an issuer. Run from the top of the repository; built by
+ * bench/run. Exit status 0 if all is right, else 1. */
 #include "books.h"
 #include "machine.h"
 #include "plain.h"
+#include "plain_salvage.h"
 
 #include <stdio.h>
 #include <stdlib.h>
@@ -788,6 +789,277 @@ static void refusals(void)
     expect_bytes("entry with must-be-present", book_len, request_len, 4, "FF05020001");
 }
 
+/* ---- Salvage ----------------------------------------------------------------------------------------------- */
+
+static uint8_t mended[MOST_BOOK], replaced[MOST_OUT];
+
+/* What the salvaging program would print of a number and the replacements in replaced, blanks for its line ends. */
+static void print_salvage(char *line, uint64_t number)
+{
+    *line = 0;
+    if (bachumoi_refused(number))
+        print_line(line, number);
+    for (size_t i = 0; i < bachumoi_replacements(number); i++) {
+        const uint8_t *its = replaced + 4 * i;
+        line += sprintf(line, "%s%02X%02X%02X%02X", i == 0 ? "" : " ", its[0], its[1], its[2], its[3]);
+    }
+}
+
+static int is_untouched(const uint8_t *bytes, size_t from, size_t to)
+{
+    int right = 1;
+    for (size_t i = from; i < to; i++)
+        right &= bytes[i] == 0xEE;
+    return right;
+}
+
+/* Whether what was mended is accepted, and keeps its records when it is salvaged again, with just as much room. */
+static int stays_mended(size_t len)
+{
+    static uint8_t again[MOST_BOOK], replaced_again[MOST_OUT];
+    size_t records = len / RECORD;
+    memset(replaced_again, 0xEE, sizeof replaced_again);
+    return (plain_judge_book(mended, len) & 255) == 0 &&
+           plain_salvage(mended, len, again, len, replaced_again, 2 * records) == 256 * records &&
+           memcmp(again, mended, len) == 0 && is_untouched(replaced_again, 0, sizeof replaced_again);
+}
+
+/* Salvages and compares with the line and the mended book expected, none for a refusal. Of mended and replaced, all
+ * bytes that are not filled must be as they were. */
+static void expect_mended(const char *name, size_t book_len, size_t mended_len, size_t replaced_len,
+                          const char *expected, const uint8_t *left, size_t left_len)
+{
+    static char line[9 * BACHUMOI_MOST_RECORDS];
+    memset(mended, 0xEE, sizeof mended);
+    memset(replaced, 0xEE, sizeof replaced);
+    uint64_t number = plain_salvage(book, book_len, mended, mended_len, replaced, replaced_len);
+    size_t records = left_len / RECORD, replacements = left_len > 0 ? (strlen(expected) + 1) / 9 : 0;
+    print_salvage(line, number);
+    int right = strcmp(line, expected) == 0 && memcmp(mended, left, left_len) == 0 &&
+                (bachumoi_refused(number) || number == 256 * (uint64_t)records + 16777216 * (uint64_t)replacements) &&
+                is_untouched(mended, left_len, sizeof mended) &&
+                is_untouched(replaced, 4 * replacements, sizeof replaced);
+    if (!right || (left_len > 0 && !stays_mended(left_len))) {
+        printf("plain C: salvage: %s: %s, not %s, or it leaves another book\n", name, line, expected);
+        failed = 1;
+    }
+}
+
+static void expect_salvage(const char *name, const char *book_text, const char *expected, const char *mended_text)
+{
+    static uint8_t left[MOST_BOOK];
+    size_t book_len = bytes_of_text(book_text, book, sizeof book);
+    size_t left_len = bytes_of_text(mended_text, left, sizeof left);
+    expect_mended(name, book_len, book_len, 2 * (book_len / RECORD), expected, left, left_len);
+}
+
+/* A set with a target, a policy, a set and an obligation: lines 1, 2 to 4, 5 to 8, 9 to 15, and 16. */
+#define SET_OF(span) "0102" span "000000000000000000000000\n"
+#define TARGET "04000003020000000000000000000000\n" \
+               "05000002000000000000000000000000\n" \
+               "06010001020100040000000000000064\n"
+#define FIRST "02010004000000000000000000000000\n" \
+              "03010002000000000000000000000000\n" \
+              "070C0001040100070000000000000032\n" \
+              "08010001000000110000000000000000\n"
+#define SECOND "01030007000000000000000000000000\n" SECOND_POLICY
+#define SECOND_POLICY "02020006000000000000000000000000\n" \
+                      "03020004000000000000000000000000\n" \
+                      "07150003000000000000000000000000\n" \
+                      "0A020001020100040000000000000000\n" LITERAL("03") \
+                      "08020001000000120000000000000000\n"
+#define LAST "08020001000000130000000000000000\n"
+#define DENIAL "02010002000000000000000000000000\n" \
+               "03020001000000000000000000000000\n"
+#define ZEROS "00000000000000000000000000000000\n"
+#define WHOLE SET_OF("0010") TARGET FIRST SECOND LAST
+
+/* That book with one other record or two, each at its line. */
+struct spoilt {
+    const char *what;
+    struct { unsigned line; const char *record; } others[2];
+    const char *expected, *mended;
+};
+
+static void salvage_of(const struct spoilt *spoilt)
+{
+    char text[] = WHOLE;
+    for (unsigned i = 0; i < 2 && spoilt->others[i].line > 0; i++)
+        memcpy(text + (spoilt->others[i].line - 1) * SHORT_LINE, spoilt->others[i].record, SHORT_LINE);
+    expect_salvage(spoilt->what, text, spoilt->expected, spoilt->mended);
+}
+
+/* A bad record in one child, or in both. */
+static void replaced_children(void)
+{
+    static const char first[] = "00050004", second[] = "00090007", both[] = "00050004 00090007";
+    static const char no_first[] = SET_OF("000E") TARGET DENIAL SECOND LAST;
+    static const char no_second[] = SET_OF("000B") TARGET FIRST DENIAL LAST;
+    static const char neither[] = SET_OF("0009") TARGET DENIAL DENIAL LAST;
+    static const struct spoilt all[] = {
+        { "a wrong digit", { { 7, ZEROS } }, first, no_first },
+        { "a rule with a wrong digit", { { 6, ZEROS } }, first, no_first },
+        { "an obligation with a wrong digit", { { 8, ZEROS } }, first, no_first },
+        { "no such effect", { { 6, "03030002000000000000000000000000\n" } }, first, no_first },
+        { "an obligation with a category", { { 8, "08010001010000110000000000000000\n" } }, first, no_first },
+        { "a comparison of span 2", { { 7, "070C0002040100070000000000000032\n" } }, first, no_first },
+        { "a span of 0", { { 6, "03010000000000000000000000000000\n" } }, first, no_first },
+        { "a rule that covers an obligation", { { 6, "03010003000000000000000000000000\n" } }, first, no_first },
+        { "a rule past the policy's end", { { 6, "03010005000000000000000000000000\n" } }, first, no_first },
+        { "a rule past the book's end", { { 6, "0301FFFF000000000000000000000000\n" } }, first, no_first },
+        { "a policy in a policy", { { 8, "02010001000000000000000000000000\n" } }, first, no_first },
+        { "the policy of a set", { { 10, ZEROS } }, second, no_second },
+        { "a policy past the set's end", { { 10, "02020007000000000000000000000000\n" } }, second, no_second },
+        { "an operand", { { 13, ZEROS } }, second, no_second },
+        { "operands of two types", { { 14, "0A010001000300000000000000000003\n" } }, second, no_second },
+        { "one operand", { { 12, "07150002000000000000000000000000\n" } }, second, no_second },
+        { "the last record of a set", { { 15, "08030001000000120000000000000000\n" } }, second, no_second },
+        { "both children", { { 7, ZEROS }, { 13, ZEROS } }, both, neither },
+        { "both children, past their ends", { { 6, "03010009000000000000000000000000\n" },
+          { 11, "0302FFFF000000000000000000000000\n" } }, both, neither },
+        { "two records of one child", { { 10, ZEROS }, { 15, ZEROS } }, second, no_second },
+    };
+    for (size_t i = 0; i < sizeof all / sizeof *all; i++)
+        salvage_of(&all[i]);
+}
+
+/* Heads whose spans are sound where they stand, though they are not those of the whole book. */
+static void other_spans(void)
+{
+    static const struct spoilt all[] = {
+        { "a head that covers the next one", { { 5, "02010005000000000000000000000000\n" } }, "00050005",
+          SET_OF("000D") TARGET DENIAL SECOND_POLICY LAST },
+        { "a head that covers all that follows", { { 5, "0201000C000000000000000000000000\n" } }, "0005000C",
+          SET_OF("0006") TARGET DENIAL },
+        { "a head that takes the last obligation", { { 9, "01030008000000000000000000000000\n" } }, "",
+          SET_OF("0010") TARGET FIRST "01030008000000000000000000000000\n" SECOND_POLICY LAST },
+    };
+    for (size_t i = 0; i < sizeof all / sizeof *all; i++)
+        salvage_of(&all[i]);
+}
+
+/* What no replacement takes away: the first such line. */
+static void beyond_repair(void)
+{
+    static const struct spoilt all[] = {
+        { "line 1", { { 1, ZEROS } }, "FF0D010001", "" },
+        { "line 1 of no such choice", { { 1, "01050010000000000000000000000000\n" } }, "FF0D010001", "" },
+        { "line 1 with an identifier", { { 1, "01020010000000010000000000000000\n" } }, "FF0D010001", "" },
+        { "line 1 with too small a span", { { 1, SET_OF("000F") } }, "FF0D010001", "" },
+        { "line 1 with too great a span", { { 1, SET_OF("0011") }, { 7, ZEROS } }, "FF0D010001", "" },
+        { "a policy as line 1", { { 1, "02020010000000000000000000000000\n" } }, "FF0D010001", "" },
+        { "a section", { { 2, ZEROS } }, "FF0D010002", "" },
+        { "a section that covers a child", { { 2, "04000004020000000000000000000000\n" } }, "FF0D010005", "" },
+        { "a conjunction, and a child", { { 3, ZEROS }, { 7, ZEROS } }, "FF0D010003", "" },
+        { "a conjunction past the section's end", { { 3, "05000003000000000000000000000000\n" } }, "FF0D010003", "" },
+        { "a match of another category", { { 4, "06010001030100040000000000000064\n" } }, "FF0D010004", "" },
+        { "a head", { { 5, ZEROS } }, "FF0D010005", "" },
+        { "a head of no such choice", { { 9, "01050007000000000000000000000000\n" } }, "FF0D010009", "" },
+        { "a head past the book's end", { { 9, "01030009000000000000000000000000\n" } }, "FF0D010009", "" },
+        { "a rule for a head", { { 9, "03010007000000000000000000000000\n" } }, "FF0D010009", "" },
+        { "a head that leaves its obligation", { { 5, "02010003000000000000000000000000\n" } }, "FF0D010009", "" },
+        { "a head that leaves a condition", { { 5, "02010002000000000000000000000000\n" } }, "FF0D010007", "" },
+        { "a child, and the next head", { { 7, ZEROS }, { 9, ZEROS } }, "FF0D010009", "" },
+        { "an obligation", { { 16, ZEROS } }, "FF0D010010", "" },
+        { "a child, and an obligation", { { 7, ZEROS }, { 16, "08030001000000130000000000000000\n" } }, "FF0D010010",
+          "" },
+    };
+    for (size_t i = 0; i < sizeof all / sizeof *all; i++)
+        salvage_of(&all[i]);
+}
+
+/* Lengths, room for the mended book and for what was replaced, and which refusal comes first. */
+static void salvage_refusals(void)
+{
+    static uint8_t left[MOST_BOOK];
+    size_t len = bytes_of_text(WHOLE, book, sizeof book);
+    size_t left_len = bytes_of_text(SET_OF("000E") TARGET DENIAL SECOND LAST, left, sizeof left);
+    book[6 * RECORD] = 0;
+    expect_mended("an empty book", 0, 0, 0, "FF03010000", left, 0);
+    expect_mended("records of 16 bytes", 16 * ISSUER, len, 32, "FF04010000", left, 0);
+    expect_mended("length before number of records", MOST_BOOK + 1, 0, 0, "FF04010000", left, 0);
+    expect_mended("room for the mended book alone", len, left_len, 32, "FF07030000", left, 0);
+    expect_mended("a byte short", len, len - 1, 32, "FF07030000", left, 0);
+    expect_mended("replaced a byte short", len, len, 31, "FF07030000", left, 0);
+    expect_mended("no room", len, 0, 0, "FF07030000", left, 0);
+    expect_mended("more room", len, sizeof mended, sizeof replaced, "00050004", left, left_len);
+    book[15 * RECORD] = 0;
+    expect_mended("a bad record before no room", len, 0, 0, "FF0D010010", left, 0);
+    len = flat(1001);
+    book[0] = 0;
+    expect_mended("1,001 lines before a bad line 1", len, sizeof mended, sizeof replaced, "FF02010000", left, 0);
+}
+
+/* A set over policies of two records of which each has a bad rule: as many replacements as there can be. */
+static void most_replacements(void)
+{
+    static char expected[9 * BACHUMOI_MOST_RECORDS];
+    static uint8_t left[MOST_BOOK];
+    size_t len = flat(999);
+    char *at = expected;
+    memcpy(left, book, len);
+    for (size_t i = 1; i < 999; i += 2) {
+        book[i * RECORD + 3] = left[i * RECORD + 3] = 2;
+        memset(book + (i + 1) * RECORD, 0, RECORD);
+        memcpy(left + (i + 1) * RECORD, (uint8_t[]){ 3, 2, 0, 1 }, 4);
+        at += sprintf(at, "%s%04zX0002", i == 1 ? "" : " ", i + 1);
+    }
+    expect_mended("499 replacements", len, len, 2 * 999, expected, left, len);
+}
+
+/* Sixteen sets, one in the other, are sound; of seventeen the innermost is bad, and the second is replaced. */
+static void salvage_of_depth(void)
+{
+    static uint8_t left[MOST_BOOK];
+    size_t len = nested(16);
+    memcpy(left, book, len);
+    expect_mended("16 nested sets", len, len, 32, "", left, len);
+    size_t left_len = bytes_of_text("01010003000000000000000000000000\n" DENIAL, left, sizeof left);
+    len = nested(17);
+    expect_mended("17 nested sets", len, len, 34, "00020010", left, left_len);
+}
+
+/* Sound books keep their records; of books with spoilt ones, what is mended stays so. */
+static void salvage_by_chance(void)
+{
+    static uint8_t left[MOST_BOOK];
+    struct dice dice = { 6 };
+    for (unsigned i = 0; i < 2000; i++) {
+        size_t len = random_book(book, 1 + roll(&dice, 60), &dice), records = len / RECORD;
+        issuers_in_book(book, len, &dice);
+        memcpy(left, book, len);
+        expect_mended("a sound book by chance", len, len, 2 * records, "", left, len);
+        for (unsigned spoilt = 1 + roll(&dice, 3); spoilt > 0; spoilt--)
+            book[roll(&dice, (unsigned)records) * RECORD + roll(&dice, RECORD)] ^= (uint8_t)(1u << roll(&dice, 8));
+        uint64_t number = plain_salvage(book, len, mended, len, replaced, 2 * records);
+        if (bachumoi_refused(number) ? bachumoi_number(number) != 13
+                                     : !stays_mended(bachumoi_records(number) * RECORD)) {
+            printf("plain C: salvage: book %u by chance is not mended\n", i);
+            failed = 1;
+        }
+    }
+}
+
+static void salvages(void)
+{
+    expect_salvage("a sound book", WHOLE, "", WHOLE);
+    expect_salvage("a set alone", "01040001000000000000000000000000\n", "", "01040001000000000000000000000000\n");
+    expect_salvage("a set over book A, line 5", "01010007000000000000000000000000\n"
+                   "02010006000000000000000000000000\n03010001000000000000000000000000\n"
+                   "03020002000000000000000000000000\n" ZEROS "08010001000000110000000000000000\n"
+                   "08020001000000120000000000000000\n", "00020006", "01010003000000000000000000000000\n" DENIAL);
+    expect_salvage("book A", A, "FF0D010001", "");
+    replaced_children();
+    other_spans();
+    beyond_repair();
+    salvage_refusals();
+    most_replacements();
+    salvage_of_depth();
+    salvage_by_chance();
+}
+
+/* ---- Programmes and examples ------------------------------------------------------------------------------- */
+
 /* Says so unless a book's programme is this one. */
 static void expect_programme(const char *name, size_t book_len, const uint64_t *entries, size_t length)
 {
@@ -881,6 +1153,7 @@ int main(void)
     issuers();
     run_line();
     refusals();
+    salvages();
     programme_of_a();
     programmes_of_issuers();
     examples("examples/a");

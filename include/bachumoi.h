@@ -71,7 +71,7 @@ extern "C" {
  *                   or target; or an operator or a comparison of two values has not exactly two values of one type
  *                   below it (an operator: of its type; names: compared by equal only)
  *                12 a record is nested deeper than 16
- *                (1 is for texts and 8 for programmes: this call gives neither; 6 is given no more)
+ *                (1 is for texts, 8 for programmes, 13 for salvaging: this call gives none of them; 6 is given no more)
  *   bits 16-31   line, the first that breaks the rule, counting records or entries from 1; 0 with 2, 3, 4 and 7
  *   bits 32-39   part, of what:
  *                1  the book
@@ -233,6 +233,69 @@ static inline enum bachumoi_status bachumoi_tick_status(uint64_t number)
 {
     return bachumoi_answer(number) == BACHUMOI_INDETERMINATE ? (enum bachumoi_status)(number >> 24 & 255)
                                                              : BACHUMOI_NO_STATUS;
+}
+
+/* ---- Salvaging: link libmender.a ---------------------------------------------------------------------------
+ *
+ * A book whose line 1 is a set may have spoilt records, as when it was half copied. Salvaging replaces each policy or
+ * set directly below line 1 that holds one, and keeps all else.
+ *
+ *   book       book_len bytes: 1 to 1,000 records of 20 bytes, parent first
+ *   mended     mended_len bytes, for the mended book: at least book_len
+ *   replaced   replaced_len bytes, for what was replaced: at least twice as many bytes as book has records
+ *
+ * A record is bad when it breaks a rule for which bachumoi_decide gives 5 or 9 to 12. What it stands below is told by
+ * the spans before it, of bad records too; but inside a policy or set directly below line 1 none reaches past its end.
+ * A host that itself reads a text puts 20 zero bytes for a line of the right length with a wrong digit: that record is
+ * bad, and nothing stands below it.
+ *
+ * A policy or set directly below line 1 whose own record is not bad, but one in it is, becomes two records: a
+ * deny-overrides policy (02 01 00 02 and 16 zeros) and its one Deny rule (03 02 00 01 and 16 zeros), which decide Deny
+ * without obligations for every request. The span of line 1 is corrected, and all other records keep their bytes. So a
+ * book without bad records keeps them all. What is mended is always accepted by bachumoi_decide and bachumoi_translate.
+ * The algorithm of line 1 still says what such a Deny counts for: a host should show what was replaced.
+ *
+ * The number returned is one of two.
+ *
+ * Mended: 256 x records + 16,777,216 x replacements
+ *
+ *   bits 0-7     0, which is no decision
+ *   bits 8-23    records, how many the mended book has
+ *   bits 24-39   replacements, how many policies and sets were replaced: 0 where no record was bad
+ *
+ *   mended then holds the records first. replaced holds four bytes a replacement first, in the order of the lines: the
+ *   line in book of the policy or set, and how many records it had there, two bytes each, the higher first. Every other
+ *   byte of both is as it was.
+ *
+ * A refusal, as of bachumoi_decide: 255 + 256 x number + 65,536 x line + 4,294,967,296 x part
+ *
+ *   bits 8-15    number, why:
+ *                2  more than 1,000 records
+ *                3  the book is empty
+ *                4  the length is not a multiple of 20
+ *                7  mended or replaced is too short
+ *                13 line 1 is bad or no set; or a record is bad that no replacement takes away: that of a policy or set
+ *                   directly below line 1, one of line 1's target or obligations, or one that may not stand there
+ *   bits 16-31   line, with 13 the first that is such, counting records from 1; 0 with the others
+ *   bits 32-39   part: 3 the output, with 7; else 1 the book
+ *
+ *   They are judged in the order 3, 4, 2, 13, 7. mended and replaced keep their bytes.
+ *
+ * For example, a deny-overrides set over book A of examples/a whose line 5 is 20 zero bytes gives 0x1000300: three
+ * records, one replacement. replaced begins with 00 02 00 06: line 2, six records. Book A itself, whose line 1 is a
+ * policy, gives 0x100010DFF: refused, number 13, line 1, part 1.
+ */
+uint64_t bachumoi_salvage(const uint8_t *book, size_t book_len, uint8_t *mended, size_t mended_len, uint8_t *replaced,
+                          size_t replaced_len);
+
+/* Records of a mended book, and how many policies and sets were replaced: 0 where salvaging was refused. */
+static inline size_t bachumoi_records(uint64_t number)
+{
+    return bachumoi_refused(number) ? 0 : (size_t)(number >> 8 & 65535);
+}
+static inline size_t bachumoi_replacements(uint64_t number)
+{
+    return bachumoi_refused(number) ? 0 : (size_t)(number >> 24 & 65535);
 }
 
 #ifdef __cplusplus

@@ -198,23 +198,24 @@ fn damaged_text(random: &mut Random, lines: &[u8], width: usize, tally: &mut Tal
     if text.is_empty() && how != 0 {
         how = DAMAGES.len() - 1;
     }
-    damage_text(random, &mut text, width, how, tally);
+    damage_text(random, &mut text, width, DAMAGES[how], tally);
     if random.chance(8) && text.len() > text::line_length(width) {
         let again = random.between(1, DAMAGES.len() - 1);
-        damage_text(random, &mut text, width, again, tally);
+        damage_text(random, &mut text, width, DAMAGES[again], tally);
     }
     text
 }
 
-fn damage_text(random: &mut Random, text: &mut Vec<u8>, width: usize, how: usize, tally: &mut Tally) {
-    tally.met("damage of a text", DAMAGES[how]);
+/// Damages a text that is not empty in one of the ways.
+pub fn damage_text(random: &mut Random, text: &mut Vec<u8>, width: usize, how: &'static str, tally: &mut Tally) {
+    tally.met("damage of a text", how);
     let (line, digits) = (text::line_length(width), 2 * width);
     let lines = text.len() / line;
     let any = random.below(lines.max(1));
     let at = random.pick(&[0, any, lines.saturating_sub(1)]);
     let (start, end) = (line * at, line * at + digits);
     let digit = start + random.below(digits);
-    match DAMAGES[how] {
+    match how {
         "wrong digit" => {
             tally.met(wrong_digit_group(width), (digit - start) as u64);
             text[digit] = wrong_digit(random);

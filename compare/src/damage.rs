@@ -64,7 +64,7 @@ pub fn request(random: &mut Random, mut entries: Vec<Entry>) -> Vec<u8> {
 }
 
 /// Changes the length so that it is often no multiple of 20, as where issuers are left out.
-fn misfit(random: &mut Random, bytes: &mut Vec<u8>) {
+pub fn misfit(random: &mut Random, bytes: &mut Vec<u8>) {
     let change = random.between(1, LENGTH + 1);
     match random.below(3) {
         0 => bytes.extend(random.bytes(change)),
@@ -131,7 +131,7 @@ fn span_off(random: &mut Random, records: &mut [Record], at: usize) {
 }
 
 /// A record that is no leaf runs past its parent's end.
-fn past_end(random: &mut Random, records: &mut [Record]) {
+pub fn past_end(random: &mut Random, records: &mut [Record]) {
     let branches: Vec<usize> = (1..records.len()).filter(|&at| !records[at].is_leaf()).collect();
     if branches.is_empty() {
         return;
@@ -143,7 +143,7 @@ fn past_end(random: &mut Random, records: &mut [Record]) {
 }
 
 /// Another category from 1 to 4, where there is one.
-fn wrong_category(random: &mut Random, records: &mut [Record], near: usize) {
+pub fn wrong_category(random: &mut Random, records: &mut [Record], near: usize) {
     let has_category = |record: &Record| record.kind() == SECTION || is_test(record);
     if let Some(record) = records[near..].iter_mut().find(|record| has_category(record)) {
         record.0[4] = random.between(1, 4) as u8;
@@ -151,7 +151,7 @@ fn wrong_category(random: &mut Random, records: &mut [Record], near: usize) {
 }
 
 /// Breaks one field rule of a sound record.
-fn break_field(random: &mut Random, record: &mut Record) {
+pub fn break_field(random: &mut Random, record: &mut Record) {
     let test = is_test(record);
     let (literal, attribute) = (record.is_literal(), record.is_attribute());
     let has_category = test || attribute || record.kind() == SECTION;
@@ -224,10 +224,10 @@ fn graft(random: &mut Random, records: &mut Vec<Record>) {
     graft_kind(random, records, kind);
 }
 
-const KINDS: [u8; 9] = [SET, POLICY, RULE, SECTION, CONJUNCTION, MATCH, CONDITION, OBLIGATION, VALUE];
+pub const KINDS: [u8; 9] = [SET, POLICY, RULE, SECTION, CONJUNCTION, MATCH, CONDITION, OBLIGATION, VALUE];
 
 /// Gives the place of the new subtree, and its parent.
-fn graft_kind(random: &mut Random, records: &mut Vec<Record>, kind: u8) -> (usize, usize) {
+pub fn graft_kind(random: &mut Random, records: &mut Vec<Record>, kind: u8) -> (usize, usize) {
     let branches: Vec<usize> = (0..records.len()).filter(|&at| !records[at].is_leaf()).collect();
     let parent = random.pick(&branches);
     let category = random.between(1, 4) as u8;
@@ -390,7 +390,7 @@ fn grafted_sum(random: &mut Random, mut records: Vec<Record>) -> Vec<u8> {
 }
 
 /// Gives the operator or comparison of values at `taker`, if it is one, operands that it does not take.
-fn spoil(random: &mut Random, records: &mut Vec<Record>, taker: usize) {
+pub fn spoil(random: &mut Random, records: &mut Vec<Record>, taker: usize) {
     if !records[taker].takes_operands() {
         return;
     }

@@ -12,8 +12,8 @@ use std::cmp::Ordering;
 /// A rule that a line breaks: a group and an item of the tally.
 pub type Cause = (&'static str, Item);
 
-/// A place rule that a line breaks, with its number.
-type Fault = (u64, Cause);
+/// A rule that a line breaks, with its number.
+pub type Fault = (u64, Cause);
 
 #[derive(Clone, Copy, PartialEq, Eq, Debug)]
 pub struct Accepted {
@@ -172,7 +172,7 @@ fn judge_fields(records: &[Record]) -> Result<(), Refused> {
 }
 
 /// The field rules that a record breaks.
-fn field_faults(record: &Record) -> Vec<Cause> {
+pub fn field_faults(record: &Record) -> Vec<Cause> {
     let name = record.name();
     let choices: &[u8] = match record.kind() {
         SET => &[1, 2, 3, 4],
@@ -341,13 +341,12 @@ fn placed_without(faults: Vec<Fault>, line: usize) -> Result<(), Refused> {
 /// Refuses the first line that breaks a place rule. Gives the depths of all lines.
 fn judge_places(records: &[Record]) -> Result<Vec<usize>, Refused> {
     placed_without(line_1_faults(records), 1)?;
-    let parents = parents(records);
+    let ends: Vec<usize> = (0..records.len()).map(|at| at + records[at].span()).collect();
+    let parents = parents(&ends);
     let mut depth = vec![1; records.len()];
     for at in 1..records.len() {
-        let parent = parents[at];
-        depth[at] = depth[parent] + 1;
-        let previous = (parent + 1..at).rev().find(|&earlier| parents[earlier] == parent);
-        let place = Place { records, parents: &parents, at, previous, depth: depth[at] };
+        depth[at] = depth[parents[at]] + 1;
+        let place = Place { records, parents: &parents, ends: &ends, at, depth: depth[at] };
         placed_without(place.faults(), at + 1)
             .map_err(|refused| Refused { found: place.found(refused.refusal.number), ..refused })?;
     }
@@ -355,16 +354,13 @@ fn judge_places(records: &[Record]) -> Result<Vec<usize>, Refused> {
 }
 
 /// The parent of every line but the first: the innermost earlier record whose span covers it.
-fn parents(records: &[Record]) -> Vec<usize> {
-    let parent = |at: usize| {
-        let covers = |&earlier: &usize| earlier + records[earlier].span() > at;
-        (0..at).rev().find(covers).expect("line 1 covers every line")
-    };
-    let after_the_first = (1..records.len()).map(parent);
+fn parents(ends: &[usize]) -> Vec<usize> {
+    let parent = |at: usize| (0..at).rev().find(|&earlier| ends[earlier] > at).expect("line 1 covers every line");
+    let after_the_first = (1..ends.len()).map(parent);
     std::iter::once(0).chain(after_the_first).collect()
 }
 
-fn line_1_faults(records: &[Record]) -> Vec<Fault> {
+pub fn line_1_faults(records: &[Record]) -> Vec<Fault> {
     let mut faults = Vec::new();
     let first = records[0];
     if first.kind() != SET && first.kind() != POLICY {
@@ -379,13 +375,13 @@ fn line_1_faults(records: &[Record]) -> Vec<Fault> {
     faults
 }
 
-/// A line after the first, with the line of its parent's child before it.
-struct Place<'a> {
-    records: &'a [Record],
-    parents: &'a [usize],
-    at: usize,
-    previous: Option<usize>,
-    depth: usize,
+/// A line after the first, in a book of which every line's parent and the end of what it covers are known.
+pub struct Place<'a> {
+    pub records: &'a [Record],
+    pub parents: &'a [usize],
+    pub ends: &'a [usize],
+    pub at: usize,
+    pub depth: usize,
 }
 
 impl Place<'_> {
@@ -393,11 +389,19 @@ impl Place<'_> {
         self.parents[self.at]
     }
 
-    fn faults(&self) -> Vec<Fault> {
+    /// The child of the same parent before it.
+    fn previous(&self) -> Option<Record> {
+        let siblings = self.parent() + 1..self.at;
+        let line = siblings.rev().find(|&earlier| self.parents[earlier] == self.parent());
+        line.map(|earlier| self.records[earlier])
+    }
+
+    /// The place rules that it breaks.
+    pub fn faults(&self) -> Vec<Fault> {
         let record = self.records[self.at];
         let name = record.name();
         let mut faults = Vec::new();
-        if self.at + record.span() > self.parent() + self.records[self.parent()].span() {
+        if self.at + record.span() > self.ends[self.parent()] {
             faults.push((10, ("10: past the parent's end", name.into())));
         }
         faults.extend(self.not_allowed().map(|cause| (11, cause)));
@@ -423,7 +427,7 @@ impl Place<'_> {
     fn not_allowed(&self) -> Option<Cause> {
         let record = self.records[self.at];
         let parent = self.records[self.parent()];
-        let previous = self.previous.map(|earlier| self.records[earlier]);
+        let previous = self.previous();
         let (name, before) = (record.name(), previous.map_or("nothing", |earlier| earlier.name()));
         // The child's place in the order of the parent's children: it may not stand after a later one.
         let order = |child: &Record| match (parent.kind(), child.kind()) {
@@ -457,14 +461,13 @@ impl Place<'_> {
     fn wrong_category(&self) -> Option<Cause> {
         let record = self.records[self.at];
         let parent = self.records[self.parent()];
-        let earlier = self.previous.map(|earlier| self.records[earlier]);
-        match (record.kind(), earlier) {
+        match (record.kind(), self.previous()) {
             (SECTION, Some(earlier)) if earlier.kind() == SECTION && earlier.category() >= record.category() => {
                 let how = if earlier.category() == record.category() { "same" } else { "lower" };
                 Some(("11: category of a section after one", how.into()))
             }
             (MATCH, _) if parent.kind() == CONJUNCTION => {
-                let section = (0..self.parent()).rev().find(|&line| line + self.records[line].span() > self.at);
+                let section = (0..self.parent()).rev().find(|&line| self.ends[line] > self.at);
                 let section = self.records[section.expect("a conjunction has a section")];
                 let differs = section.category() != record.category();
                 differs.then(|| ("11: category of a match", "not its section's".into()))

@@ -1,6 +1,6 @@
-//! The calls of the static libraries `probe` and `host`, where they were there when this was built.
+//! The calls of the static libraries `probe`, `host` and `mender`, where they were there when this was built.
 
-use crate::subject::{Host, Judge, Texts};
+use crate::subject::{Host, Judge, Mender, Texts};
 
 #[cfg(has_text)]
 mod text_calls {
@@ -76,6 +76,37 @@ mod host_calls {
     }
 }
 
+#[cfg(has_salvage)]
+mod mender_calls {
+    use crate::subject::Mender;
+
+    extern "C" {
+        fn probe_zero_wrong(text: *mut u8, len: usize);
+        fn bachumoi_salvage(
+            book: *const u8,
+            book_len: usize,
+            mended: *mut u8,
+            mended_len: usize,
+            replaced: *mut u8,
+            replaced_len: usize,
+        ) -> u64;
+    }
+
+    pub struct Linked;
+
+    impl Mender for Linked {
+        fn zero_wrong(&self, text: &mut [u8]) {
+            unsafe { probe_zero_wrong(text.as_mut_ptr(), text.len()) }
+        }
+
+        fn salvage(&self, book: &[u8], mended: &mut [u8], replaced: &mut [u8]) -> u64 {
+            let (place, room) = (mended.as_mut_ptr(), mended.len());
+            let (list, length) = (replaced.as_mut_ptr(), replaced.len());
+            unsafe { bachumoi_salvage(book.as_ptr(), book.len(), place, room, list, length) }
+        }
+    }
+}
+
 pub fn texts() -> Option<&'static dyn Texts> {
     #[cfg(has_text)]
     return Some(&text_calls::Linked);
@@ -94,5 +125,12 @@ pub fn host() -> Option<&'static dyn Host> {
     #[cfg(has_host)]
     return Some(&host_calls::Linked);
     #[cfg(not(has_host))]
+    None
+}
+
+pub fn mender() -> Option<&'static dyn Mender> {
+    #[cfg(has_salvage)]
+    return Some(&mender_calls::Linked);
+    #[cfg(not(has_salvage))]
     None
 }

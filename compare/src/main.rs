@@ -9,8 +9,10 @@ mod codes;
 mod compare_damaged;
 mod compare_decide;
 mod compare_judge;
+mod compare_salvage;
 mod compare_text;
 mod compare_ticks;
+mod copied;
 mod damage;
 mod decide;
 mod doubt;
@@ -32,6 +34,8 @@ mod planted_codes;
 #[cfg(test)]
 mod planted_issuers;
 #[cfg(test)]
+mod planted_salvage;
+#[cfg(test)]
 mod planted_texts;
 mod policy;
 mod random;
@@ -42,6 +46,15 @@ mod rig;
 mod run;
 #[cfg(test)]
 mod run_tests;
+mod salvage;
+mod salvage_counts;
+mod salvage_examples;
+mod salvage_refused;
+#[cfg(test)]
+mod salvage_tests;
+mod salvage_texts;
+mod salvaging;
+mod spoilt;
 mod status;
 #[cfg(test)]
 mod status_tests;
@@ -64,10 +77,11 @@ mod wished;
 use bench::Machine;
 use run::{compare, Cases, Difference};
 use std::process::ExitCode;
+use subject::Rig;
 
 const USAGE: &str = "usage: compare NAME COUNT [SEED [FIRST]]
        compare NAME until TIMES COUNT [SEED]
-       compare once CALL INPUT.. [ROOM]
+       compare once CALL INPUT.. [ROOM..]
        compare linked
 
 Runs COUNT generated cases against the static library that they are about, from case FIRST (0) of
@@ -78,10 +92,12 @@ TIMES times, and fails if COUNT cases do not. NAME is
   decide   deciding through the C host     (library host)
   ticks    translating and running         (library rig; host too, if it is there)
   damaged  damaged programmes and states   (library rig)
+  salvage  salvaging half-copied books     (libraries mender, probe and host)
 
 `compare once` makes one call and compares it. Inputs are hexadecimal digits, `-` for none; ROOM is the
 length of the output. CALL is read-book, read-request, write-book, write-request (INPUT ROOM),
-judge-book, judge-request (INPUT) or decide (BOOK REQUEST ROOM).
+judge-book, judge-request (INPUT), decide (BOOK REQUEST ROOM), salvage (BOOK REQUEST ROOM ROOM, for the
+mended book and for the replacements) or salvage-text (TEXT).
 
 `compare linked` prints the names whose library was there when this was built.";
 
@@ -127,6 +143,7 @@ fn print_linked() {
         ("decide", linked::host().is_some()),
         ("ticks", rig),
         ("damaged", rig),
+        ("salvage", compare_salvage::linked().is_some()),
     ];
     for (name, _) in names.iter().filter(|(_, is_linked)| *is_linked) {
         println!("{name}");
@@ -158,24 +175,32 @@ fn run_named(name: &str, cases: Cases) -> Result<bool, String> {
                 compare_decide::case(host, random, tally)
             }))
         }
-        "ticks" => {
-            let machine = Machine::new(rig::rig().ok_or_else(missing)?, linked::host())?;
-            paper_holds(name, compare_ticks::check_paper(&machine))?;
-            Ok(compare(name, cases, &compare_ticks::wanted(), |random, tally| {
-                compare_ticks::case(&machine, random, tally)
-            }))
-        }
-        "damaged" => {
-            let machine = Machine::new(rig::rig().ok_or_else(missing)?, None)?;
-            Ok(compare(name, cases, &compare_damaged::wanted(), |random, tally| {
-                compare_damaged::case(&machine, random, tally)
+        "ticks" | "damaged" => run_on_rig(name, cases, rig::rig().ok_or_else(missing)?),
+        "salvage" => {
+            let calls = compare_salvage::linked().ok_or_else(missing)?;
+            paper_holds(name, salvage_examples::check(&calls))?;
+            Ok(compare(name, cases, &compare_salvage::wanted(), |random, tally| {
+                compare_salvage::case(&calls, random, tally)
             }))
         }
         _ => Err(USAGE.to_string()),
     }
 }
 
-/// Document 01's own examples hold.
+/// The same for a comparison with the rig.
+fn run_on_rig(name: &str, cases: Cases, rig: &'static dyn Rig) -> Result<bool, String> {
+    if name == "damaged" {
+        let machine = Machine::new(rig, None)?;
+        return Ok(compare(name, cases, &compare_damaged::wanted(), |random, tally| {
+            compare_damaged::case(&machine, random, tally)
+        }));
+    }
+    let machine = Machine::new(rig, linked::host())?;
+    paper_holds(name, compare_ticks::check_paper(&machine))?;
+    Ok(compare(name, cases, &compare_ticks::wanted(), |random, tally| compare_ticks::case(&machine, random, tally)))
+}
+
+/// The worked examples hold: document 01's own, of salvaging those found by hand.
 fn paper_holds(name: &str, result: Result<(), Difference>) -> Result<(), String> {
-    result.map_err(|difference| format!("{name}: an example of document 01 differs\n{difference}"))
+    result.map_err(|difference| format!("{name}: a worked example differs\n{difference}"))
 }

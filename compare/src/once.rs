@@ -2,8 +2,9 @@
 
 use crate::refusal::Part;
 use crate::run::Difference;
+use crate::salvaging::Salvaging;
 use crate::tally::Tally;
-use crate::{compare_decide, compare_judge, compare_text, linked};
+use crate::{compare_decide, compare_judge, compare_salvage, compare_text, linked};
 
 /// What the output holds before the call.
 const BEFORE: u8 = 0xEE;
@@ -30,6 +31,15 @@ pub fn once(words: &[String]) -> Option<Result<bool, String>> {
         ("decide", [book, request, room]) => {
             let (book, request, out) = (bytes(book)?, bytes(request)?, output(room)?);
             linked::host().map(|host| compare_decide::check(host, &book, &request, &out, tally))
+        }
+        ("salvage", [book, request, mended, replaced]) => {
+            let (book, request, mended, replaced) = (bytes(book)?, bytes(request)?, output(mended)?, output(replaced)?);
+            let call = Salvaging { book, mended, replaced, request };
+            compare_salvage::linked().map(|calls| call.check(&calls, tally))
+        }
+        ("salvage-text", [text]) => {
+            let text = bytes(text)?;
+            compare_salvage::linked().map(|calls| compare_salvage::check_whole(&calls, &text, tally))
         }
         _ => return None,
     };

@@ -18,6 +18,14 @@ pub trait Judge: Sync {
     fn judge_request(&self, request: &[u8]) -> u64;
 }
 
+/// Salvaging, and what makes a text readable for it.
+pub trait Mender: Sync {
+    /// Turns every letter but LF of what is no good line into the digit 0.
+    fn zero_wrong(&self, text: &mut [u8]);
+    /// 256 x records of the mended book + 16,777,216 x replacements, or the refusal.
+    fn salvage(&self, book: &[u8], mended: &mut [u8], replaced: &mut [u8]) -> u64;
+}
+
 /// The C host's call.
 pub trait Host: Sync {
     fn decide(&self, book: &[u8], request: &[u8], out: &mut [u8]) -> u64;

@@ -271,7 +271,7 @@ fn an_output_is_too_short_only_for_obligations() {
 
 /// How a stand-in behaves.
 #[derive(Clone, Copy, PartialEq, Eq, Debug)]
-enum Plan {
+pub enum Plan {
     Right,
     SmallLetter,
     OneBeforeTwo,
@@ -334,7 +334,7 @@ enum Plan {
     OutsideNotRefused,
 }
 
-struct Model(Plan);
+pub struct Model(pub Plan);
 
 impl Texts for Model {
     fn read(&self, part: Part, text: &[u8], out: &mut [u8]) -> u64 {

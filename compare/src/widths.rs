@@ -8,7 +8,7 @@ use crate::tally::{numbers, pairs, triples, words, Tally, Wanted};
 use crate::text::{line_length, most_lines, read_line, text_of, width};
 
 pub const WIDTHS: [usize; 2] = [SHORT, LENGTH];
-const NAMES: [&str; 2] = ["32 digits", "40 digits"];
+pub const NAMES: [&str; 2] = ["32 digits", "40 digits"];
 const PARTS: [&str; 2] = ["book", "request"];
 
 const ACCEPTED: &str = "text accepted";
@@ -45,7 +45,7 @@ fn part_name(part: Part) -> &'static str {
     PARTS[usize::from(part != Part::Book)]
 }
 
-fn width_name(width: usize) -> &'static str {
+pub fn width_name(width: usize) -> &'static str {
     NAMES[usize::from(width != SHORT)]
 }
 

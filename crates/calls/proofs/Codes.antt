@@ -1,5 +1,5 @@
 -- The claim of specs/Codes.antt. Assumes nothing.
-use Prim.Native.Nat.{_+_, _-_, _*_}
+use Prim.Native.Nat.{_-_, _*_}
 use mathlib.Core.Path.{_≡_, sym, ap, _∙_}
 use lib.ListN.{length, replicate}
 use mathlib.Core.List.{_++_}

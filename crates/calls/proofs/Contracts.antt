@@ -1,16 +1,21 @@
 -- What the contract of each exported function says of a call is what the claims speak of. `Post` is what Rattle reads off the source's `ensures`: `a` are the
 -- arguments of a call, x its number, and s the lent slices after it. Assumes nothing.
-use Prim.Native.Nat.{_/_}
+use Prim.Native.Nat.{_*_, _/_, _%_}
 use mathlib.Core.Path.{_≡_, refl}
 use lib.ListN.{length, take}
 use contract.Lifetimes.{Lfts}
 use borrow.Fn.Kinds.{Dens, resT, endedOf}
 use denote.Triple.Clauses.{AtExit}
 use denote.Ref.{now}
+use Rattle.record.specs.Bytes.{size}
 use Rattle.demand.specs.Demand.{Turn}
 use Rattle.host.specs.Host.{hostNumber, hostOutcome, hostOut}
 use Rattle.host.proofs.bachumoi_decide.Kinds as decide-kinds
 use Rattle.host.proofs.bachumoi_decide.Reads as decide-reads
+use Rattle.mending.specs.Salvaged.{answerOf, mendedOut, replacedOut}
+use Rattle.mender.specs.Mender.{salvagedNumber}
+use Rattle.mender.proofs.bachumoi_salvage.Kinds as salvage-kinds
+use Rattle.mender.proofs.bachumoi_salvage.Reads as salvage-reads
 use Rattle.translator.specs.Translate.{translateOf, leaves}
 use Rattle.rig.specs.Rig.{Call, call, freshCall, translatedNumber}
 use Rattle.rig.proofs.bachumoi_translate.Kinds as translate-kinds
@@ -20,6 +25,7 @@ use Rattle.rig.proofs.bachumoi_fresh.Reads as fresh-reads
 use Rattle.rig.proofs.bachumoi_tick.Kinds as tick-kinds
 use Rattle.rig.proofs.bachumoi_tick.Reads as tick-reads
 use Rattle.calls.specs.Loop.{programmeIn, ticks, next}
+use Rattle.calls.specs.Salvages.{mendedIn}
 
 -- bachumoi_decide(book, request, out)
 module _ (κs : Lfts 3) (a : Dens κs decide-kinds.ps) (x : resT decide-kinds.r κs .Denot) (s : AtExit (endedOf 3 decide-kinds.ps decide-kinds.r) κs) where
@@ -37,6 +43,16 @@ module _ (κs : Lfts 2) (a : Dens κs translate-kinds.ps) (x : resT translate-ki
       → (x ≡ translatedNumber (translateOf (now (a .0)) (length (now (a .1 .0)))))
       × (now (s .1 .0) ≡ leaves (translateOf (now (a .0)) (length (now (a .1 .0)))) (now (a .0)) (now (a .1 .0)))
   translate-tells p = p
+
+-- bachumoi_salvage(book, mended, replaced): its number counts the records that it leaves first in mended, or says the refusal
+module _ (κs : Lfts 3) (a : Dens κs salvage-kinds.ps) (x : resT salvage-kinds.r κs .Denot) (s : AtExit (endedOf 3 salvage-kinds.ps salvage-kinds.r) κs) where
+  pub salvage-says : salvage-reads.Post κs a x s → take (x / 256 % 65536 * size) (now (s .1 .0)) ≡ mendedIn (now (a .0)) (now (a .1 .0)) (now (a .1 .1 .0))
+  salvage-says p = rw (p .0, p .1) refl
+
+  pub salvage-tells : salvage-reads.Post κs a x s
+      → let answer = answerOf (now (a .0)) (length (now (a .1 .0))) (length (now (a .1 .1 .0))) in
+      (x ≡ salvagedNumber answer) × (now (s .1 .0) ≡ mendedOut (now (a .0)) answer (now (a .1 .0))) × (now (s .1 .1 .0) ≡ replacedOut (now (a .0)) answer (now (a .1 .1 .0)))
+  salvage-tells p = p
 
 -- bachumoi_fresh(numbers, places)
 module _ (κs : Lfts 2) (a : Dens κs fresh-kinds.ps) (x : resT fresh-kinds.r κs .Denot) (s : AtExit (endedOf 2 fresh-kinds.ps fresh-kinds.r) κs) where

@@ -3,3 +3,4 @@ pub mod Decides
 pub mod Refuses
 pub mod Equal
 pub mod Codes
+pub mod Salvages

@@ -36,7 +36,7 @@ pub all-keep : (f : ℕ → Bool) (n : ℕ) → n ≤ firstFrom f 0 n → AllKee
 all-keep f n h i z = first-before f 0 n i (omega arith) (omega arith)
 
 -- the bytes of n records
-sized-is : (b : List ℕ) → (length b ≡ 0 → ⊥) → length b % size ≡ 0 → length b ≤ mostRecords * size → Sized b (length b / size)
+pub sized-is : (b : List ℕ) → (length b ≡ 0 → ⊥) → length b % size ≡ 0 → length b ≤ mostRecords * size → Sized b (length b / size)
 sized-is b h e l = record { bytes = omega arith; some = omega arith; most = omega arith }
 
 -- what is answered of n records

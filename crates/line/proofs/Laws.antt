@@ -1,19 +1,20 @@
--- Lengths of the lines, and stores that follow one another. Assumes nothing.
+-- Lengths of the lines, and the stores that make them. Assumes nothing.
 use mathlib.Core.Path.{_≡_, refl, sym, ap, _∙_}
 use mathlib.Core.Bool.{Bool, true, false}
 use mathlib.Core.List.{List, [], _∷_, _++_, append-assoc}
 use Prim.Native.Nat.{ℕ, zero, suc, _+_, _*_, _/_, _<_, _≤_, zero-le}
-use native.Mathlib.Nat.{add-zero, zero-add}
 use native.Mathlib.Numerals.{add-one}
 use native.Mathlib.Omega.{arith}
 use borrow.Author.Tests.{le-leb, lt-leb, leb-true}
 use lib.Dec.{leb}
 use lib.ListN.{length, take, getD, drop, set, length-append, drop-of-length-le}
-use lib.Seq.{sets, sets-eq, drop-cons, take-at}
+use lib.Seq.{drop-cons, take-at}
 use Rattle.record.specs.Choose.{if}
+use Rattle.record.specs.Stored.{stored}
 use Rattle.record.specs.declared.Refusal.{Refusal}
+use Rattle.record.proofs.Stored.{stored-then, stored-one, stored-pair, stored-first}
 use Rattle.text.specs.Hex.{letterOf}
-use Rattle.line.specs.Line.{hexOf, fours, refusalLine, decisionLine, placesOf, put, stored}
+use Rattle.line.specs.Line.{hexOf, fours, refusalLine, decisionLine, placesOf, put}
 
 hex-four : (n : ℕ) → hexOf 4 n ≡ hexOf 2 (n / 256) ++ hexOf 2 n
 unfolding hexOf
@@ -39,33 +40,18 @@ pub length-decision : (decision : ℕ) (ns : List ℕ) → length (decisionLine 
 unfolding decisionLine
 length-decision decision ns = simp (length-append, length-hex, length-fours) (omega arith)
 
--- stores that follow one another
-sets-append : (l xs ys : List ℕ) (at : ℕ) → sets l at (xs ++ ys) ≡ sets (sets l at xs) (at + length xs) ys
-sets-append l [] ys at = rw (add-zero at)
-sets-append l (x ∷ xs) ys at =
-    let e : suc at + length xs ≡ at + suc (length xs) = omega arith in
-    sets-append (set l at x) xs ys (suc at) ∙ rw e
-
-pub stored-then : (l xs ys : List ℕ) (at n : ℕ) → length xs ≡ n → stored l at (xs ++ ys) ≡ stored (stored l at xs) (at + n) ys
-unfolding stored
-stored-then l xs ys at n e = sets-append l xs ys at ∙ rw e
-
-pub stored-one : (l : List ℕ) (at x : ℕ) → set l at x ≡ stored l at (x ∷ [])
-unfolding stored
-stored-one l at x = refl
-
 -- two digits and four, as they are stored
 pub stored-two : (l : List ℕ) (at n : ℕ) → set (set l at (letterOf (n / 16))) (at + 1) (letterOf n) ≡ stored l at (hexOf 2 n)
-unfolding stored hexOf
-stored-two l at n = rw (add-one at)
+unfolding hexOf
+stored-two l at n = stored-pair l at (letterOf (n / 16)) (letterOf n)
 
 pub stored-four : (l : List ℕ) (at n : ℕ) → stored (stored l at (hexOf 2 (n / 256))) (at + 2) (hexOf 2 n) ≡ stored l at (hexOf 4 n)
 stored-four l at n = rw (hex-four n) (sym (stored-then l (hexOf 2 (n / 256)) (hexOf 2 n) at 2 (length-hex 2 (n / 256))))
 
 -- a line that fits, and one that does not
 put-fits : (line out : List ℕ) → length line ≤ length out → stored out 0 line ≡ put line out
-unfolding put stored
-put-fits line out h = simp (le-leb (length line) (length out) h) (sets-eq line out 0 (omega arith) ∙ rw (zero-add (length line)))
+unfolding put
+put-fits line out h = simp (le-leb (length line) (length out) h) (stored-first out line h)
 
 pub put-short : (line out : List ℕ) → length out < length line → out ≡ put line out
 unfolding put

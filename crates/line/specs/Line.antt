@@ -3,7 +3,6 @@ use Prim.Native.Nat.{ℕ, zero, suc, _+_, _*_, _/_}
 use mathlib.Core.List.{List, [], _∷_, _++_}
 use lib.Dec.{leb}
 use lib.ListN.{length, drop}
-use lib.Seq.{sets}
 use Rattle.record.specs.Bytes.{mostRecords}
 use Rattle.record.specs.Choose.{if}
 use Rattle.record.specs.declared.Refusal.{Refusal}
@@ -39,7 +38,3 @@ placesOf line room = if (leb (length line) room) (length line) 0
 -- what the output then holds
 unfoldable pub put : List ℕ → List ℕ → List ℕ
 put line out = if (leb (length line) (length out)) (line ++ drop (length line) out) out
-
--- a list with others stored from a place on
-unfoldable pub stored : List ℕ → ℕ → List ℕ → List ℕ
-stored l at xs = sets l at xs

@@ -4,8 +4,9 @@ ghost use mathlib.Core.Path.{_≡_};
 ghost use mathlib.Core.List.{[], _∷_, _++_};
 ghost use Prim.Native.Nat.{_+_, _*_, _≤_};
 ghost use lib.ListN.{length, take};
+ghost use Rattle.record.specs.Stored.{stored};
 ghost use Rattle.text.specs.Text.{lf};
-ghost use Rattle.line.specs.Line.{hexOf, fours, refusalLine, decisionLine, placesOf, put, stored};
+ghost use Rattle.line.specs.Line.{hexOf, fours, refusalLine, decisionLine, placesOf, put};
 
 // The longest line: that of a decision with as many obligations as a book can have records.
 pub const LONGEST: usize = 2 + 4 + 4 * record::MOST_RECORDS + 1;
@@ -18,7 +19,8 @@ fn two_digits(out: &mut [u8], at: usize, n: usize)
     out[at + 1] = text::letter(n);
 }
 
-fn four_digits(out: &mut [u8], at: usize, n: usize)
+// Stores a number as four digits, from place `at` on.
+pub fn four_digits(out: &mut [u8], at: usize, n: usize)
     requires { ⌜ at + 4 ≤ length (now out) ⌝ }
     ensures { λ _. ⌜ now (out .exit) ≡ stored (now (out .entry)) at (hexOf 4 n) ⌝ }
 {

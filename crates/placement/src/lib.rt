@@ -16,7 +16,7 @@ ghost use Rattle.placement.specs.Walk.{Walk, Finds};
 pub const MOST_DEPTH: usize = 16;
 
 // A number for each kind.
-fn number(k: Kind) -> usize
+pub fn number(k: Kind) -> usize
     ensures { λ r. ⌜ r ≡ kindNumber k ⌝ }
 {
     match k {
@@ -108,7 +108,7 @@ fn takes(p: usize, k: Kind) -> bool
 }
 
 // Where a child of category c stands in the order of children.
-fn rank(k: Kind, c: usize) -> usize
+pub fn rank(k: Kind, c: usize) -> usize
     requires { ⌜ c < 256 ⌝ }
     ensures { λ r. ⌜ (r ≡ rankOf k c) × (r < 256) ⌝ }
 {
@@ -178,7 +178,7 @@ fn under_ok(k: Kind, section: usize, c: usize) -> bool
 }
 
 // Whether a child may stand there: `parent` is its parent's number, `before` the rank of the child before, `outer` the category of its parent's parent.
-fn stands(parent: usize, k: Kind, c: usize, before: usize, outer: usize) -> bool
+pub fn stands(parent: usize, k: Kind, c: usize, before: usize, outer: usize) -> bool
     requires { ⌜ (c < 256) × (before < 256) ⌝ }
     ensures { λ r. ⌜ r ≡ standsOk parent k c before outer ⌝ }
 {

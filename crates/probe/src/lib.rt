@@ -6,6 +6,7 @@ ghost use mathlib.Core.Path.{_≡_};
 ghost use Prim.Native.Nat.{_<_, _^_};
 ghost use lib.ListN.{length};
 ghost use Rattle.text.specs.Text.{book, request, readOf, writeOf, byteAt, textAt, outputAfter};
+ghost use Rattle.text.specs.Wrong.{zeroed};
 ghost use Rattle.judge.specs.Judge.{judgeOf};
 ghost use Rattle.judge.specs.Request.{judgeRequestOf};
 ghost use Rattle.probe.specs.Packed.{packedOf};
@@ -50,6 +51,13 @@ pub extern "C" fn probe_write_request(records: &[u8], out: &mut [u8]) -> u64
     ensures { λ r. ⌜ (r ≡ packedOf (writeOf request (now (records .entry)) (length (now (out .entry))))) × (now (out .exit) ≡ outputAfter (textAt (now (records .entry))) (writeOf request (now (records .entry)) (length (now (out .entry)))) (now (out .entry))) ⌝ }
 {
     packed(text::write_request(records, out))
+}
+
+#[no_mangle]
+pub extern "C" fn probe_zero_wrong(text: &mut [u8])
+    ensures { λ _. ⌜ now (text .exit) ≡ zeroed (now (text .entry)) ⌝ }
+{
+    text::zero_wrong(text);
 }
 
 fn book_packed(answer: Judged) -> u64

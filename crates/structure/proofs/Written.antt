@@ -199,14 +199,14 @@ pub sound-is-spanned : SoundIsSpanned
 sound-is-spanned x h b = spanned-same x (book-formed x h) b
 
 -- records by themselves, and then others
-slice-add : (b : List ℕ) (i s t : ℕ) → sliceOf b i (s + t) ≡ sliceOf b i s ++ sliceOf b (i + s) t
+pub slice-add : (b : List ℕ) (i s t : ℕ) → sliceOf b i (s + t) ≡ sliceOf b i s ++ sliceOf b (i + s) t
 unfolding sliceOf
 slice-add b i s t =
     let x : (s + t) * size ≡ s * size + t * size = omega arith in
     let y : (i + s) * size ≡ i * size + s * size = omega arith in
     rw (x, y, ← drop-drop (s * size) (i * size) b) (take-add (s * size) (t * size) (drop (i * size) b))
 
-slice-record : (b : List ℕ) (i : ℕ) → (i + 1) * size ≤ length b → recordAt b i ≡ sliceOf b i 1
+pub slice-record : (b : List ℕ) (i : ℕ) → (i + 1) * size ≤ length b → recordAt b i ≡ sliceOf b i 1
 unfolding sliceOf
 slice-record b i h =
     record-is b i (sliceOf b i 1) (length-take-le size (drop (i * size) b) (omega (arith, length-drop (i * size) b)))

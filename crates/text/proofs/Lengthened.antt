@@ -23,7 +23,7 @@ module _ (f : ℕ → ℕ) where
   unfolding tab
   put x rest j e = rw (add-one j, e) (sym (append-snoc (tab f j) x rest))
 
-  puts : (g : ℕ → ℕ) (rest : List ℕ) (j n : ℕ) → ((d : ℕ) → d < n → f (j + d) ≡ g d) → tab f j ++ (tab g n ++ rest) ≡ tab f (j + n) ++ rest
+  pub puts : (g : ℕ → ℕ) (rest : List ℕ) (j n : ℕ) → ((d : ℕ) → d < n → f (j + d) ≡ g d) → tab f j ++ (tab g n ++ rest) ≡ tab f (j + n) ++ rest
   unfolding tab
   puts g rest j zero h = rw (add-zero j)
   puts g rest j (suc n) h =

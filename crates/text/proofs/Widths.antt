@@ -4,7 +4,7 @@ use mathlib.Core.Bool.{Bool, true, false}
 use mathlib.Core.List.{List}
 use mathlib.Core.Logic.{_⊎_, inl, inr}
 use Prim.Native.Nat.{ℕ, _+_, _*_, _/_, _%_, _<_, _≤_, min}
-use native.Mathlib.Nat.{mul-comm, mul-le-mul-left, mul-le-mul-right, le-div-iff-mul-le, div-lt-iff-lt-mul, min-eq-left, min-eq-right}
+use native.Mathlib.Nat.{add-zero, mul-comm, mul-le-mul-left, mul-le-mul-right, mul-add-div, div-eq-of-lt, le-div-iff-mul-le, div-lt-iff-lt-mul, min-eq-left, min-eq-right}
 use native.Mathlib.Omega.{arith}
 use borrow.Author.Tests.{lt-ltb, le-ltb, eq-eqb, ne-eqb}
 use lib.Dec.{eqb}
@@ -43,6 +43,11 @@ start-least w n h = let g : size ≤ lineLength w = omega arith in mul-le-mul-ri
 pub start-most : (w n : ℕ) → w ≤ size → start w n ≤ lineLength size * n
 unfolding start
 start-most w n h = let g : lineLength w ≤ lineLength size = omega arith in mul-le-mul-right n g
+
+-- the line that a byte stands in
+pub line-of : (w n j : ℕ) → j < lineLength w → (start w n + j) / lineLength w ≡ n
+unfolding start
+line-of w n j h = let some : 0 < lineLength w = omega arith in mul-add-div some n j ∙ rw (div-eq-of-lt h) (add-zero n)
 
 -- where the first n lines of a text end
 module _ (w long n : ℕ) where

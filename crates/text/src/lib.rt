@@ -2,13 +2,14 @@
 use record::Refusal;
 ghost use mathlib.Core.Path.{_≡_};
 ghost use mathlib.Core.List.{_++_};
-ghost use Prim.Native.Nat.{_<_, _≤_, _+_, _*_, _/_, min};
-ghost use lib.ListN.{length, drop};
+ghost use Prim.Native.Nat.{_<_, _≤_, _+_, _-_, _*_, _/_, min};
+ghost use lib.ListN.{length, getD, take, drop};
 ghost use Rattle.record.specs.Bytes.{size};
 ghost use Rattle.record.specs.Below.{allBelow};
 ghost use Rattle.record.specs.Table.{tab};
 ghost use Rattle.text.specs.Hex.{digitOf, isDigit, digitValue, letterOf};
 ghost use Rattle.text.specs.Text.{book, request, missing, lineLength, start, width, digitAt, goodLine, judgeFrom, byteAt, textAt, readOf, writeOf, outputAfter};
+ghost use Rattle.text.specs.Wrong.{legible, zeroed};
 
 // The bytes that a line says without the issuer's.
 const SHORT: usize = 16;
@@ -131,6 +132,15 @@ pub fn lines_end(text: &[u8], n: usize) -> usize
     n * line
 }
 
+fn least(a: usize, b: usize) -> usize
+    ensures { λ r. ⌜ r ≡ min a b ⌝ }
+{
+    if a < b {
+        return a;
+    }
+    b
+}
+
 // Whether so many digits stand at this place.
 fn all_digits(text: &[u8], at: usize, n: usize) -> bool
     requires { ⌜ at + n ≤ length (now text) ⌝ }
@@ -159,6 +169,46 @@ fn good_line(w: usize, text: &[u8], at: usize) -> bool
         return false;
     }
     all_digits(text, at, end)
+}
+
+// A byte of a line that is good or not: itself, or the digit 0, but LF stays.
+fn legible(good: bool, c: u8) -> u8
+    ensures { λ r. ⌜ r ≡ legible good c ⌝ }
+{
+    if good {
+        return c;
+    }
+    if c == LF {
+        return LF;
+    }
+    b'0'
+}
+
+// Makes each byte of the line from `at` on and below `end` legible.
+fn zero_line(text: &mut [u8], at: usize, end: usize, good: bool)
+    requires { ⌜ (at ≤ end) × (end ≤ length (now text)) ⌝ }
+    ensures { λ _. ⌜ now (text .exit) ≡ take at (now (text .entry)) ++ (tab (λ j. legible good (getD (now (text .entry)) (at + j) 0)) (end - at) ++ drop end (now (text .entry))) ⌝ }
+{
+    let mut i = at;
+    while i < end {
+        text[i] = legible(good, text[i]);
+        i += 1;
+    }
+}
+
+// Puts zeros for every line that is not good, LF excepted: one of the right length with a wrong digit is then read as a record of zeros.
+pub fn zero_wrong(text: &mut [u8])
+    ensures { λ _. ⌜ now (text .exit) ≡ zeroed (now (text .entry)) ⌝ }
+{
+    let w = width(text);
+    let line = 2 * w + 1;
+    let mut at = 0;
+    while at < text.len() {
+        let good = good_line(w, text, at);
+        let end = least(line, text.len() - at) + at;
+        zero_line(text, at, end, good);
+        at = end;
+    }
 }
 
 // How the lines of a text stand: all are good, or this is the first that is not, or there are too many.

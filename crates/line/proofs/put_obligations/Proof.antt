@@ -4,7 +4,8 @@ use mathlib.Core.Path.{_≡_, refl, _∙_}
 use mathlib.Core.List.{[], _∷_, _++_}
 use Prim.Native.Nat.{_≤_, _-_, _*_, _+_}
 use lib.ListN.{length, drop}
-use Rattle.line.specs.Line.{fours, stored}
+use Rattle.record.specs.Stored.{stored}
+use Rattle.line.specs.Line.{fours}
 use Rattle.line.proofs.Laws.{fours-more, fours-end}
 use Rattle.line.proofs.put_obligations.Statement.{statement}
 use Rattle.line.proofs.put_obligations.Tie as tie

@@ -1,0 +1,2 @@
+pub mod Spoilt
+pub mod Places
