@@ -1,33 +1,21 @@
 -- A text of any length is judged by the bytes that are read: `specs/Decide.antt`'s claim. Assumes nothing.
 use mathlib.Core.Path.{_≡_, refl}
 use mathlib.Core.List.{List}
-use Prim.Native.Nat.{ℕ, _+_, _*_, _<_}
+use Prim.Native.Nat.{ℕ, _+_, _*_}
 use native.Mathlib.Omega.{arith}
 use lib.ListN.{take}
 use lib.Seq.{take-all}
 use Rattle.record.specs.Bytes.{size, mostRecords, mostEntries}
-use Rattle.text.specs.Text.{book, request, lineLength, width, readOf, byteAt}
+use Rattle.text.specs.Text.{book, request, lineLength, readOf, byteAt}
 use Rattle.record.specs.Table.{tab}
-use Rattle.text.specs.declared.Kind.{Kind}
 use Rattle.text.specs.declared.Filled.{Filled}
 use Rattle.text.specs.declared.Filled.the-variants as read
-use Rattle.text.proofs.Widths.{start-first, start-most, width-within}
-use Rattle.text.proofs.Lined.{judge-lined}
-use Rattle.text.proofs.Accepted.{was-read}
-use Rattle.text.proofs.FirstBytes.{first-bytes}
+use Rattle.text.proofs.FirstBytes.{first-bytes, read-whole}
 use Rattle.decide.specs.Decide.{afterRequest, afterBook, printed, AnyLength}
-
--- a text that is read has no more bytes than there may be lines
-read-whole : (k : Kind) (text : List ℕ) (room m bytes : ℕ) → lineLength size * k .most < bytes → readOf k text room ≡ read.Places m → take bytes text ≡ text
-read-whole k text room m bytes h e =
-    let w = was-read k text room m e in
-    let v = width text in
-    let l = judge-lined v text (k .most) 0 (w .n) (start-first v text) (w .judged) in
-    take-all bytes text (omega (arith, l .long, l .few, start-most v (w .n) (width-within text .1)))
 
 request-cut : (b text : List ℕ) (a : Filled) → readOf request text (size * mostEntries) ≡ a → afterRequest a b (take (lineLength size * mostEntries + 1) text) ≡ afterRequest a b text
 unfolding afterRequest
-request-cut b text (read.Places m) e = rw (read-whole request text (size * mostEntries) m (lineLength size * mostEntries + 1) (omega arith) e)
+request-cut b text (read.Places m) e = rw (take-all (lineLength size * mostEntries + 1) text (read-whole request text (size * mostEntries) m (lineLength size * mostEntries + 1) (omega arith) e))
 request-cut b text (read.Refused r) e = refl
 
 request-any : (b text : List ℕ) → afterRequest (readOf request (take (lineLength size * mostEntries + 1) text) (size * mostEntries)) b (take (lineLength size * mostEntries + 1) text) ≡ afterRequest (readOf request text (size * mostEntries)) b text
@@ -35,7 +23,7 @@ request-any b text = rw (first-bytes request text (size * mostEntries) (lineLeng
 
 book-cut : (text asked : List ℕ) (a : Filled) → readOf book text (size * mostRecords) ≡ a → afterBook a (take (lineLength size * mostRecords + 1) text) (take (lineLength size * mostEntries + 1) asked) ≡ afterBook a text asked
 unfolding afterBook
-book-cut text asked (read.Places n) e = rw (read-whole book text (size * mostRecords) n (lineLength size * mostRecords + 1) (omega arith) e) (request-any (tab (byteAt text) n) asked)
+book-cut text asked (read.Places n) e = rw (take-all (lineLength size * mostRecords + 1) text (read-whole book text (size * mostRecords) n (lineLength size * mostRecords + 1) (omega arith) e)) (request-any (tab (byteAt text) n) asked)
 book-cut text asked (read.Refused r) e = refl
 
 pub any-length : AnyLength

@@ -300,7 +300,7 @@ fn less_ten(c: usize) -> usize
     c - 10
 }
 
-fn rules(book: &[u8], i: usize, k: Kind) -> bool
+pub fn rules(book: &[u8], i: usize, k: Kind) -> bool
     requires { ⌜ (i + 1) * size ≤ length (now book) ⌝ }
     ensures { λ r. ⌜ r ≡ rulesOf (now (book .entry)) i k ⌝ }
 {

@@ -1,9 +1,11 @@
 -- What `salvage` makes of the text that it read: the text of MENDED.HEX, and what it prints. Assumes nothing.
-use Prim.Native.Nat.{ℕ, _*_, _/_}
+use Prim.Native.Nat.{ℕ, _+_, _*_, _/_, _<_}
+use mathlib.Core.Path.{_≡_}
 use mathlib.Core.List.{List, [], _∷_, _++_}
-use lib.ListN.{length}
+use lib.ListN.{length, take}
 use Rattle.record.specs.Bytes.{size, mostRecords}
 use Rattle.record.specs.Table.{tab}
+use Rattle.record.specs.declared.Refusal.{Refusal}
 use Rattle.text.specs.Text.{book, lf, lineLength, readOf, byteAt, textAt}
 use Rattle.text.specs.Wrong.{zeroed}
 use Rattle.text.specs.declared.Filled.{Filled}
@@ -51,3 +53,15 @@ readBy text (Refused r) = refuses (refusalLine r)
 
 unfoldable pub said : List ℕ → Said
 said text = readBy (zeroed text) (readOf book (zeroed text) (size * mostRecords))
+
+-- claimed: a longer file says the same as its first bytes, which are all that is read; `proofs/AnyLength.antt` proves it
+abbrev pub AnyLength : Type 0
+AnyLength = (text : List ℕ) → said (take (lineLength size * mostRecords + 1) text) ≡ said text
+
+-- claimed: a refusal is said and no file is, or there is something to write; `proofs/Writes.antt` proves it
+pub data Says (s : Said) : Type 0 where
+  refusing : (r : Refusal) → s ≡ refuses (refusalLine r) → Says s
+  writing : 0 < length (s .file) → Says s
+
+abbrev pub WritesOrRefuses : Type 0
+WritesOrRefuses = (text : List ℕ) → Says (said text)

@@ -1,3 +1,4 @@
 pub mod Lines
 pub mod Trees
 pub mod Walk
+pub mod Zeros

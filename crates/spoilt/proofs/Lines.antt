@@ -11,7 +11,7 @@ use Rattle.record.specs.Bytes.{byteOf, spanOf}
 use Rattle.record.specs.Forest.{spanIn}
 use Rattle.record.proofs.Choose.{both-parts, no-false}
 use Rattle.record.proofs.Forests.{span-pos, span-le, span-stated}
-use Rattle.fields.specs.Fields.{kindAt, fieldOk}
+use Rattle.fields.specs.Fields.{kindAt, rulesOf, fieldOk}
 use Rattle.fields.specs.declared.Kind.{Kind}
 use Rattle.fields.proofs.Spans as spans
 use Rattle.operands.specs.Operands.{valueType, operandsOk}
@@ -104,6 +104,11 @@ pub record Kept (b : List ℕ) (i top d pn gc pc e : ℕ) : Type 0 where
 refuted : (t : Bool) → (t ≡ true → ⊥) → false ≡ t
 refuted true f = absurd (f refl)
 refuted false f = refl
+
+-- the field rules of its kind
+pub field-by : (b : List ℕ) (i : ℕ) {f : Bool} {k : Kind} → k ≡ kindAt b i → f ≡ rulesOf b i k → f ≡ fieldOk b i
+unfolding fieldOk
+field-by b i ek ef = rw (← ek) ef
 
 -- one that keeps the field rules ends behind itself
 pub line-ends : (b : List ℕ) (i : ℕ) {f : Bool} {s : ℕ} → f ≡ fieldOk b i → f ≡ true → s ≡ spanOf b i → i + 1 ≤ i + s

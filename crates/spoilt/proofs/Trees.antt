@@ -14,6 +14,7 @@ use Rattle.placement.specs.Place.{rankAt}
 use Rattle.structure.specs.Subtrees.{Subtrees, noSubtree, subtree, recordCount}
 use Rattle.structure.specs.Sound.{Parent, asParent, recordOk, childOk, operandsIn, sound}
 use Rattle.structure.proofs.Subtrees.{count-none, count-subtree}
+use Rattle.spoilt.specs.Claims.{SoundIsGood}
 use Rattle.spoilt.specs.Spoilt.{lineOk, goodAt, replaceable, insideAt, mendableAt, firstBad, firstSpoilt}
 
 -- the first that fails, of tests that are others moved by s
@@ -171,9 +172,8 @@ bad-none u e (subtree r kids rest) h =
     let w = both-parts (sound (asParent u r 0) 0 kids) (sound u (rankAt r 0) rest) (z .1) in
     rw (bad-lines u e r kids rest, count-subtree r kids rest, z .0, bad-none (asParent u r 0) 0 kids (w .0), bad-none u (rankAt r 0) rest (w .1), le-ltb n n (omega arith)) refl
 
--- so it is sound or not by whether a line is bad
-pub sound-is : (u : Parent) (e : ℕ) (x : Subtrees) → ltb (firstBad u e x) (recordCount x) ≡ not (sound u e x)
-sound-is u e x =
+pub sound-is-good : SoundIsGood
+sound-is-good u e x =
     by (sound u e x)
     (λ t. rw (t, bad-none u e x t) (le-ltb (recordCount x) (recordCount x) (omega arith)))
     (λ t. rw t (lt-ltb (firstBad u e x) (recordCount x) (bad-inside u e x t)))
@@ -184,7 +184,7 @@ module _ (u : Parent) (e : ℕ) (r : List ℕ) (kids rest : Subtrees) where
       ≡ if (lineOk u e r kids)
       (suc (if (sound (asParent u r 0) 0 kids) (recordCount kids + firstBad u (rankAt r 0) rest) (firstBad (asParent u r 0) 0 kids)))
       0
-  bad-step = rw (bad-lines u e r kids rest, sound-is (asParent u r 0) 0 kids) (go (sound (asParent u r 0) 0 kids))
+  bad-step = rw (bad-lines u e r kids rest, sound-is-good (asParent u r 0) 0 kids) (go (sound (asParent u r 0) 0 kids))
     where
       go : (t : Bool) → if (lineOk u e r kids) (suc (if (not t) (firstBad (asParent u r 0) 0 kids) (recordCount kids + firstBad u (rankAt r 0) rest))) 0
           ≡ if (lineOk u e r kids) (suc (if t (recordCount kids + firstBad u (rankAt r 0) rest) (firstBad (asParent u r 0) 0 kids))) 0
@@ -204,7 +204,7 @@ module _ (u : Parent) (e : ℕ) (r : List ℕ) (kids rest : Subtrees) where
   unfolding firstBad
   spoilt-step =
       rw (spoilt-lines u e r kids rest, spoilt-below (recordCount kids) (replaceable u e r kids))
-      (go (replaceable u e r kids) (sound (asParent u r 0) 0 kids) (sound-is (asParent u r 0) 0 kids))
+      (go (replaceable u e r kids) (sound (asParent u r 0) 0 kids) (sound-is-good (asParent u r 0) 0 kids))
     where
       go : (p t : Bool) → ltb (firstBad (asParent u r 0) 0 kids) (recordCount kids) ≡ not t
           → if (lineOk u e r kids) (suc (if (ltb (if p (recordCount kids) (firstBad (asParent u r 0) 0 kids)) (recordCount kids))

@@ -1,2 +1,3 @@
 pub mod Spoilt
 pub mod Places
+pub mod Claims

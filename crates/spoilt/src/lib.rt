@@ -5,6 +5,7 @@ ghost use Prim.Native.Nat.{_+_, _*_, _-_, _<_, _≤_};
 ghost use lib.ListN.{length};
 ghost use Rattle.record.specs.Bytes.{size, byteOf};
 ghost use Rattle.record.specs.Forest.{spanIn};
+ghost use Rattle.fields.specs.Fields.{kindAt};
 ghost use Rattle.fields.specs.declared.Kind.the-variants.{Weighing};
 ghost use Rattle.operands.specs.Operands.{operandsOk};
 ghost use Rattle.structure.specs.Subtrees.{recordAt, subtreesOf};
@@ -81,7 +82,7 @@ fn operands_in(book: &[u8], from: usize, top: usize, k: Kind, c: usize) -> bool
     }
 }
 
-// Whether record i is no bad line, below `top`, as a child, after one of rank `before`, of a parent of number `kind` whose own parent's category is `outer`,
+// Whether record i, of kind k, is no bad line, below `top`, as a child, after one of rank `before`, of a parent of number `kind` whose own parent's category is `outer`,
 // where `above` levels are above it.
 fn line_ok(
     book: &[u8],
@@ -91,11 +92,12 @@ fn line_ok(
     kind: usize,
     outer: usize,
     before: usize,
+    k: Kind,
 ) -> bool
-    requires { ⌜ (top * size ≤ length (now book)) × (i < top) × (before < 256) ⌝ }
+    requires { ⌜ (top * size ≤ length (now book)) × (i < top) × (before < 256) × (k ≡ kindAt (now book) i) ⌝ }
     ensures { λ r. ⌜ r ≡ lineOk (parent above kind outer 0) before (recordAt (now (book .entry)) i) (subtreesOf (now (book .entry)) (i + 1) (spanIn (now (book .entry)) i (top - i) - 1)) ⌝ }
 {
-    if !fields::field_ok(book, i) {
+    if !fields::rules(book, i, k) {
         return false;
     }
     let end = i + record::span(book, i);
@@ -105,7 +107,6 @@ fn line_ok(
     if placement::MOST_DEPTH <= above {
         return false;
     }
-    let k = fields::kind_at(book, i);
     let c = record::byte(book, i, 4);
     if !placement::stands(kind, k, c, before, outer) {
         return false;
@@ -131,11 +132,11 @@ pub fn first_bad(
     let mut i = from;
     let mut rank = before;
     while i < top {
-        if !line_ok(book, i, top, above, kind, outer, rank) {
+        let k = fields::kind_at(book, i);
+        if !line_ok(book, i, top, above, kind, outer, rank, k) {
             return i;
         }
         let at = i;
-        let k = fields::kind_at(book, at);
         let c = record::byte(book, at, 4);
         let next = at + record::span(book, at);
         rank = placement::rank(k, c);
@@ -160,11 +161,11 @@ pub fn first_spoilt(book: &[u8], n: usize, category: usize) -> usize
     let mut i: usize = 1;
     let mut rank: usize = 0;
     while i < n {
-        if !line_ok(book, i, n, 1, 1, category, rank) {
+        let k = fields::kind_at(book, i);
+        if !line_ok(book, i, n, 1, 1, category, rank, k) {
             return i;
         }
         let at = i;
-        let k = fields::kind_at(book, at);
         let c = record::byte(book, at, 4);
         let next = at + record::span(book, at);
         rank = placement::rank(k, c);

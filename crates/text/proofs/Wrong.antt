@@ -6,18 +6,20 @@ use Prim.Native.Nat.{ℕ, _+_, _*_, _/_, _%_, _<_, _≤_}
 use native.Mathlib.Omega.{arith}
 use borrow.Author.Tests.{ltb-true, ltb-false, leb-true, leb-false, ne-eqb}
 use lib.Dec.{ltb, leb, eqb}
-use lib.ListN.{length, getD, List·getD-eq-default}
+use lib.ListN.{length, getD, take, List·getD-eq-default}
+use lib.Seq.{getD-take}
 use Rattle.record.specs.Choose.{if, both}
-use Rattle.record.specs.Bytes.{size}
+use Rattle.record.specs.Bytes.{size, mostRecords}
 use Rattle.record.proofs.Below.{all-same}
 use Rattle.record.proofs.Table.{length-tab, getD-tab}
 use Rattle.text.specs.Hex.{digitOf, isDigit, digitValue}
-use Rattle.text.specs.Text.{shortSize, digits, lf, lineLength, start, width, digitAt, goodLine, byteAt}
+use Rattle.text.specs.Text.{shortSize, digits, lf, lineLength, start, width, digitAt, goodLine, judgeFrom, readOf, byteAt}
 use Rattle.text.specs.RoundTrip.{zeroDigit}
-use Rattle.text.specs.Wrong.{legible, zeroedAt, zeroed, rightLength, RightIsGood, GoodOrZeros}
+use Rattle.text.specs.Wrong.{legible, zeroedAt, zeroed, rightLength, RightIsGood, GoodOrZeros, ZeroedFirstBytes}
 use Rattle.text.proofs.Letters.{digit-no-lf}
-use Rattle.text.proofs.Widths.{said, unsaid}
+use Rattle.text.proofs.Widths.{said, unsaid, width-within}
 use Rattle.text.proofs.Lined.{good-digit}
+use Rattle.text.proofs.FirstBytes.{judged-alike, ends-same, fits-same, width-same}
 use Rattle.text.proofs.Zeroed.{zeroed-byte}
 
 -- the rest counts only where the first test passes
@@ -137,3 +139,33 @@ module _ (s : List ℕ) (i : ℕ) where
 
 pub good-or-zeros : GoodOrZeros
 good-or-zeros s i = good-or s i (ltb (i % size) (width s)) refl
+
+-- a text of any length
+module _ (s : List ℕ) (bytes : ℕ) where
+  right-same : (w at : ℕ) → at + lineLength w ≤ bytes → rightLength w (take bytes s) at ≡ rightLength w s at
+  unfolding rightLength
+  right-same w at h =
+      rw (
+        fits-same s bytes (at + lineLength w) _ h refl,
+        getD-take bytes s (at + digits w) 0 (omega arith),
+        all-same (λ j. not (eqb (getD (take bytes s) (at + j) 0) lf)) (λ j. not (eqb (getD s (at + j) 0) lf)) (digits w)
+            (λ j l. ap (λ (x : ℕ). not (eqb x lf)) (getD-take bytes s (at + j) 0 (omega arith))),
+      )
+
+  zeroed-long : (t : List ℕ) → length (zeroed t) ≡ length t
+  unfolding zeroed
+  zeroed-long t = length-tab (zeroedAt t) (length t)
+
+  judged-zeroed : (most : ℕ) → 1 ≤ most → lineLength size * most < bytes
+      → judgeFrom (width (zeroed (take bytes s))) (zeroed (take bytes s)) most 0 ≡ judgeFrom (width (zeroed s)) (zeroed s) most 0
+  judged-zeroed most some h =
+      let t : List ℕ = take bytes s in
+      let w : width t ≡ width s = width-same s bytes (omega arith) in
+      let lines : (n : ℕ) → start (width s) n + lineLength (width s) ≤ bytes → goodLine (width s) (zeroed t) (start (width s) n) ≡ goodLine (width s) (zeroed s) (start (width s) n) =
+      λ n l. (rw w at (right-is-good t n .1)) ∙ right-same (width s) (start (width s) n) l ∙ sym (right-is-good s n .1) in
+      rw (right-is-good t 0 .0, right-is-good s 0 .0, w)
+      (judged-alike (width s) bytes (zeroed t) (zeroed s) (λ at l. rw (zeroed-long t, zeroed-long s) (ends-same s bytes at _ l refl)) lines most (width-within s .1) h)
+
+pub zeroed-first-bytes : ZeroedFirstBytes
+unfolding readOf
+zeroed-first-bytes s room bytes h = rw (judged-zeroed s bytes mostRecords (omega arith) h)

@@ -1,16 +1,16 @@
 -- Wrong digits (document 02, 6). Where a book is to be salvaged, a line of the right length with a wrong digit stands for a record of zeros: kind 0 breaks a
 -- field rule, and span 0 covers no other line. So such lines become lines of zeros, and the text is then read as any other. Assumes nothing.
-use Prim.Native.Nat.{ℕ, _+_, _/_}
+use Prim.Native.Nat.{ℕ, _+_, _*_, _/_, _<_}
 use mathlib.Core.Path.{_≡_}
 use mathlib.Core.Bool.{Bool, not}
 use mathlib.Core.List.{List}
 use lib.Dec.{leb, eqb}
-use lib.ListN.{length, getD}
+use lib.ListN.{length, getD, take}
 use Rattle.record.specs.Choose.{if, both}
-use Rattle.record.specs.Bytes.{size}
+use Rattle.record.specs.Bytes.{size, mostRecords}
 use Rattle.record.specs.Below.{allBelow}
 use Rattle.record.specs.Table.{tab}
-use Rattle.text.specs.Text.{digits, lf, lineLength, start, width, goodLine, byteAt}
+use Rattle.text.specs.Text.{book, digits, lf, lineLength, start, width, goodLine, readOf, byteAt}
 use Rattle.text.specs.RoundTrip.{zeroDigit}
 
 -- a byte of a line that is good or not: itself, or the digit 0, but LF stays
@@ -39,3 +39,8 @@ abbrev pub GoodOrZeros : Type 0
 GoodOrZeros =
     (text : List ℕ) (i : ℕ) → let at = start (width text) (i / size) in
     byteAt (zeroed text) i ≡ if (goodLine (width text) text at) (byteAt text i) 0
+
+-- .. and the text of a book, of any length, is read by its first bytes, one more than as many lines as there may be
+abbrev pub ZeroedFirstBytes : Type 0
+ZeroedFirstBytes =
+    (text : List ℕ) (room bytes : ℕ) → lineLength size * mostRecords < bytes → readOf book (zeroed (take bytes text)) room ≡ readOf book (zeroed text) room

@@ -39,14 +39,14 @@ abbrev first-bad-μ-loop : first-bad-lts.MeasureT-loop
 first-bad-μ-loop book from top above kind outer category before i₀ rank₀ i rank = top - i
 
 abbrev first-bad-calls : ℕ → first-bad-lts.Claims
-first-bad-calls t = (line-ok-reads.Asked, line-ok-reads.Learnt, kind-at-reads.Asked, kind-at-reads.Learnt, byte-reads.Asked, byte-reads.Learnt, span-reads.Asked, span-reads.Learnt, rank-reads.Asked, rank-reads.Learnt, number-reads.Asked, number-reads.Learnt, first-bad-below t, first-bad.Post)
+first-bad-calls t = (kind-at-reads.Asked, kind-at-reads.Learnt, line-ok-reads.Asked, line-ok-reads.Learnt, byte-reads.Asked, byte-reads.Learnt, span-reads.Asked, span-reads.Learnt, rank-reads.Asked, rank-reads.Learnt, number-reads.Asked, number-reads.Learnt, first-bad-below t, first-bad.Post)
 
 first-bad-loop-holds : (t : ℕ) → first-bad-lts.Need-loop-holds (first-bad-calls t) (first-bad-at t) first-bad.Post first-bad-Inv-loop first-bad-μ-loop
 first-bad-loop-holds t c = (omega arith, omega arith, omega arith, refl)
 
 first-bad-returns : (t : ℕ) → first-bad-lts.Need-returns (first-bad-calls t) (first-bad-at t) first-bad.Post first-bad-Inv-loop first-bad-μ-loop
 first-bad-returns t c =
-    let turn = c .before .before in
+    let turn = c .before .before .before in
     (sym (turn .before .loop .inv .3 ∙ bad-here _ _ _ _ _ _ _ _ (turn .loop-test .taken) (c .before .line-ok .ensures) (not-true _ (c .if1 .taken))), omega arith)
 
 -- the line of this turn is not bad
@@ -54,13 +54,13 @@ first-bad-passed : (t : ℕ) (c : first-bad-lts.After-rank (first-bad-calls t) (
     let read = c .before in
     let turn = read .before .before .before .before .before in
     let a = turn .before .before .before .args in
-    Passed (a .book .now) (turn .before .loop .i) (a .top) (a .above) (a .kind) (a .outer) (a .category) (turn .before .loop .rank) (read .before .before .kind-at .result) (read .before .byte .result) (read .span .result) (c .rank .result)
+    Passed (a .book .now) (turn .before .loop .i) (a .top) (a .above) (a .kind) (a .outer) (a .category) (turn .before .loop .rank) (read .before .before .before .before .kind-at .result) (read .before .byte .result) (read .span .result) (c .rank .result)
 first-bad-passed t c =
     let read = c .before in
-    let tested = read .before .before .before in
+    let tested = read .before .before in
     record {
-      keeps = kept _ _ _ _ _ _ _ _ (tested .before .before .loop-test .taken) (tested .before .line-ok .ensures) (not-false _ (tested .if1 .left));
-      kind = read .before .before .kind-at .ensures;
+      keeps = kept _ _ _ _ _ _ _ _ (tested .before .before .before .loop-test .taken) (tested .before .line-ok .ensures) (not-false _ (tested .if1 .left));
+      kind = tested .before .before .kind-at .ensures;
       category = read .before .byte .ensures .0;
       span = read .span .ensures .0;
       rank = c .rank .ensures .0;
@@ -115,8 +115,8 @@ pub +first-bad-spec : {M : Type 1} → statement M
     first-bad-μ-loop
     (first-bad-loop-holds t)
     (λ c κs. search needs)
-    (first-bad-returns t)
     (λ c κs. search needs)
+    (first-bad-returns t)
     (λ c κs. search needs)
     (λ c κs. search needs)
     (λ c. search needs)

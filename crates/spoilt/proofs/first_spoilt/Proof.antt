@@ -21,7 +21,7 @@ loop-holds c = (omega arith, omega arith, refl)
 
 returns : tie.Need-returns Inv-loop μ-loop
 returns c =
-    let turn = c .before .before in
+    let turn = c .before .before .before in
     (sym (turn .before .loop .inv .2 ∙ spoilt-here _ _ _ _ _ _ _ _ (turn .loop-test .taken) (c .before .line-ok .ensures) (not-true _ (c .if1 .taken))), omega arith)
 
 -- the line of this turn is not bad
@@ -29,13 +29,13 @@ passed : (c : tie.After-rank Inv-loop μ-loop) →
     let read = c .before in
     let turn = read .before .before .before .before .before in
     let a = turn .before .before .before .args in
-    Passed (a .book .now) (turn .before .loop .i) (a .n) 1 1 (a .category) (a .category) (turn .before .loop .rank) (read .before .before .kind-at .result) (read .before .byte .result) (read .span .result) (c .rank .result)
+    Passed (a .book .now) (turn .before .loop .i) (a .n) 1 1 (a .category) (a .category) (turn .before .loop .rank) (read .before .before .before .before .kind-at .result) (read .before .byte .result) (read .span .result) (c .rank .result)
 passed c =
     let read = c .before in
-    let tested = read .before .before .before in
+    let tested = read .before .before in
     record {
-      keeps = kept _ _ _ _ _ _ _ _ (tested .before .before .loop-test .taken) (tested .before .line-ok .ensures) (not-false _ (tested .if1 .left));
-      kind = read .before .before .kind-at .ensures;
+      keeps = kept _ _ _ _ _ _ _ _ (tested .before .before .before .loop-test .taken) (tested .before .line-ok .ensures) (not-false _ (tested .if1 .left));
+      kind = tested .before .before .kind-at .ensures;
       category = read .before .byte .ensures .0;
       span = read .span .ensures .0;
       rank = c .rank .ensures .0;
@@ -88,8 +88,8 @@ first-spoilt-spec =
     μ-loop
     loop-holds
     (λ c κs. search needs)
-    returns
     (λ c κs. search needs)
+    returns
     (λ c κs. search needs)
     (λ c κs. search needs)
     (λ c. search needs)
