@@ -16,9 +16,9 @@ use Rattle.placement.specs.Place.{kindNumber}
 use Rattle.placement.specs.Keeps.{FirstToBreak, Sized, Keeps}
 use Rattle.judge.specs.Judge.{judgeOf}
 use Rattle.judge.specs.declared.Judged.the-variants.{Accepted}
-use Rattle.structure.specs.Subtrees.{Subtrees, recordCount, subtreesOf, bytesOf, withSpan, sliceOf, SameRecords}
+use Rattle.structure.specs.Subtrees.{Subtrees, recordCount, recordAt, subtreesOf, bytesOf, withSpan, sliceOf, SameRecords}
 use Rattle.structure.specs.Sound.{asParent, lineOne, soundAt}
-use Rattle.spoilt.specs.Spoilt.{goodAt, mendableAt, isSet}
+use Rattle.spoilt.specs.Spoilt.{lineOk, goodAt, mendableAt, isSet}
 use Rattle.mending.specs.Mending.{denyPolicy, denyRule, Replacement, Mended, Spoilt, salvageOf}
 
 -- the result keeps every rule, and is accepted; it is no longer than the book
@@ -41,13 +41,16 @@ MendedOnce =
     (b : List ℕ) (n : ℕ) → Sized b n → (x : Subtrees) (xs : List Replacement) → salvageOf b n ≡ Mended x xs
     → salvageOf (bytesOf x) (recordCount x) ≡ Mended x []
 
--- what is replaced is a policy or set below line 1 with a sound head line and a bad line inside; so it is not sound, whatever stands before it
+-- what is replaced is a policy or set below line 1 with a sound head line, as a child of line 1 after one of some rank, and a bad line inside; so it is not
+-- sound, whatever stands before it
 pub record Replaceable (b : List ℕ) (n line lines : ℕ) : Type 0 where
   pub below : 2 ≤ line
   pub inside : line + lines ≤ n + 1
   pub span : spanOf b (line - 1) ≡ lines
   pub fields : fieldOk b (line - 1) ≡ true
   pub kind : among 1 2 (kindNumber (kindAt b (line - 1))) ≡ true
+  pub rank : ℕ
+  pub head : lineOk (lineOne b) rank (recordAt b (line - 1)) (subtreesOf b line (lines - 1)) ≡ true
   pub bad : ℕ
   pub bad-inside : bad < lines - 1
   pub is-bad : goodAt (asParent (lineOne b) b (line - 1)) 0 (subtreesOf b line (lines - 1)) bad ≡ false

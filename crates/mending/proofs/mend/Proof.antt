@@ -59,7 +59,11 @@ put-replacement-requires c κs =
     (omega (arith, l .inv .2, l .inv .4, start .pre .4), omega (arith, start .pre .2), omega (arith, start .pre .2))
 
 loop-less : tie.Need-loop-less Inv-loop μ-loop
-loop-less c = let y = ends (c .before .before .before .before .before .before .before .before .before .before) in omega arith
+loop-less c =
+    let told = c .before .before in
+    let tested = told .before .before .before .before .before .before in
+    let y = ends (tested .before .before) in
+    omega arith
 
 loop-again : tie.Need-loop-again Inv-loop μ-loop
 loop-again c =
