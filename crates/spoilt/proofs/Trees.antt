@@ -139,10 +139,6 @@ pub spoilt-empty : (u : Parent) (e : ℕ) → firstSpoilt u e noSubtree ≡ 0
 unfolding firstSpoilt firstFrom recordCount
 spoilt-empty u e = refl
 
-pub bad-le : (u : Parent) (e : ℕ) (x : Subtrees) → firstBad u e x ≤ recordCount x
-unfolding firstBad
-bad-le u e x = let z = first-le (goodAt u e x) 0 (recordCount x) in omega (arith, z)
-
 pub spoilt-le : (u : Parent) (e : ℕ) (x : Subtrees) → firstSpoilt u e x ≤ recordCount x
 unfolding firstSpoilt
 spoilt-le u e x = let z = first-le (mendableAt u e x) 0 (recordCount x) in omega (arith, z)
