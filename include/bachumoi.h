@@ -55,6 +55,12 @@ extern "C" {
  *   out then holds count numbers of two bytes each, the higher byte first, in the order in which they were handed
  *   up; every other byte of out is zero, an odd last one too.
  *
+ *   A book may be sorted, each child with all its lines. Rules under deny-overrides and permit-overrides, and policies
+ *   and sets under only-one-applicable: decision, count and out stay. Policies and sets under deny-overrides and
+ *   permit-overrides: the decision stays, and count, with the same numbers in out, perhaps in another order, unless
+ *   such a deny-overrides set denies and the book does, or such a permit-overrides set permits and the book does. The
+ *   code of an Indeterminate may become another. Under first-applicable nothing stays.
+ *
  * A refusal: 255 + 256 x number + 65,536 x line + 4,294,967,296 x part
  *
  *   bits 0-7     255

@@ -5,3 +5,4 @@ pub mod Equal
 pub mod Contracts
 pub mod Codes
 pub mod Salvages
+pub mod Order

@@ -4,3 +4,4 @@ pub mod Refuses
 pub mod Equal
 pub mod Codes
 pub mod Salvages
+pub mod Order

@@ -15,7 +15,7 @@ use Rattle.record.specs.Bytes.{size, byteOf}
 use Rattle.record.specs.Forest.{Forest, spanIn, forest}
 use Rattle.record.proofs.Forests.{forest-none, forest-more}
 use Rattle.meaning.specs.Policy.{last, more, Conjunction, Section, Target, compares, all, any}
-use Rattle.meaning.specs.Meaning.{overRules, overPolicies, same, isOnly}
+use Rattle.meaning.specs.Meaning.{overRules, overPolicies, algorithmOf, same, isOnly}
 use Rattle.meaning.specs.Numbers.{bareOf, issuerOf}
 use Rattle.meaning.specs.Reading.{isKind, isParty, choiceAt, comparisonAt, sectionAt, targetIn, notAt, exprsIn, weighsAt, conditionAt, conditionsIn, whenIn, effectOf, ruleAt, rulesIn, obligationsIn, rulesBy, policiesBy, treeAt, treesIn, bookOf}
 use Rattle.meaning.proofs.Cases.{tree-by}
@@ -28,7 +28,7 @@ use Rattle.layout.specs.Entry.{Entry, begin, match, further, opens, compare, cl
 use Rattle.layout.specs.Layout.{bitOf, effectCode, opCode, algorithmCode, testWord, wordsOf}
 use Rattle.layout.specs.declared.Op.{Op}
 use Rattle.layout.specs.declared.Op.the-variants.{All, Any, Not}
-use Rattle.code.specs.Code.{codeSection, codeTarget, codeCondition, codeConditions, codeWhen, codeRule, codeRules, codeObligations, codeApplies, codeBody, codeWithin, codeShell, codeTree, codeTrees, owns, obligations, obligationsAll, algorithmOf, codeTop, programme, translated, inNumbers}
+use Rattle.code.specs.Code.{codeSection, codeTarget, codeCondition, codeConditions, codeWhen, codeRule, codeRules, codeObligations, codeApplies, codeBody, codeWithin, codeShell, codeTree, codeTrees, owns, obligations, obligationsAll, codeTop, programme, translated, inNumbers}
 use Rattle.emission.specs.Emit.{Wrote, Emitted, below, sectionCode, targetCode, conditionCode, conditionsCode, whenCode, ruleCode, rulesCode, obligationsCode, treeCode, treesCode, algorithmAt, bodyCode, withinCode, dueIn}
 use Rattle.code.proofs.Size.{recsM, recsS, recsTarget, l-target, short}
 use Rattle.code.proofs.Counted.{book-records}

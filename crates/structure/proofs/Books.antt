@@ -97,7 +97,7 @@ policy-stands k c e g a l =
     ⊎-elim (λ (q : k ≡ PolicySet). rw (q, o) refl) (λ (q : k ≡ Policy). rw (q, o) refl) (policy-kind k a)
 
 -- and wants no operands
-policy-operands : (r : List ℕ) (kids : Subtrees) → among 1 2 (kindNumber (kindAt r 0)) ≡ true → operandsIn r kids ≡ true
+pub policy-operands : (r : List ℕ) (kids : Subtrees) → among 1 2 (kindNumber (kindAt r 0)) ≡ true → operandsIn r kids ≡ true
 unfolding operandsIn
 policy-operands r kids a = ⊎-elim (λ (q : kindAt r 0 ≡ PolicySet). rw q refl) (λ (q : kindAt r 0 ≡ Policy). rw q refl) (policy-kind (kindAt r 0) a)
 

@@ -17,7 +17,7 @@ use Rattle.structure.proofs.Records.{kind-byte, choice-byte, later-byte
 use Rattle.structure.proofs.Subtrees.{subtrees-same}
 
 -- a choice by the same test between the same things
-if-same : {A : Type 0} (p q : Bool) (x y v w : A) → p ≡ q → x ≡ v → y ≡ w → if p x y ≡ if q v w
+pub if-same : {A : Type 0} (p q : Bool) (x y v w : A) → p ≡ q → x ≡ v → y ≡ w → if p x y ≡ if q v w
 if-same p q x y v w e f g = rw (e, f, g) refl
 
 -- the same of the same two values
@@ -32,7 +32,7 @@ module _ (b c : List ℕ) where
         → AlikeForests (node i below rest) (node j below′ rest′)
 
   module _ (i j : ℕ) (h : SameButSpan b i c j) where
-    kind-is : (k : ℕ) → isKind b i k ≡ isKind c j k
+    pub kind-is : (k : ℕ) → isKind b i k ≡ isKind c j k
     kind-is k = ap (λ (x : ℕ). eqb x k) (kind-byte b i c j h)
 
     choice-same : byteOf b i 1 ≡ byteOf c j 1
@@ -87,7 +87,7 @@ module _ (b c : List ℕ) where
         (if-same _ _ _ _ _ _ (choice-is 3) (ap (notAt b i) e ∙ not-same ds)
         (if-same _ _ _ _ _ _ (ap (λ (x : ℕ). ltb 20 x) choice-same) (weighs-same es fs v) (ap compares comparison-same))))
 
-    obligation-same : obligationAt b i ≡ obligationAt c j
+    pub obligation-same : obligationAt b i ≡ obligationAt c j
     obligation-same = rw (choice-same, big-same b i c j h 6 2 (omega arith) (omega arith)) refl
 
   -- children that are read by functions that agree
@@ -107,7 +107,7 @@ module _ (b c : List ℕ) where
   conjunction-same i j x y h a =
       children-same (λ (k : ℕ) (z : Forest). matchAt b k) (λ (k : ℕ) (z : Forest). matchAt c k) (λ m n v w k p. match-same m n k) i j h a
 
-  section-same : (i j : ℕ) (x y : Forest) → SameButSpan b i c j → AlikeForests x y → sectionAt b i x ≡ sectionAt c j y
+  pub section-same : (i j : ℕ) (x y : Forest) → SameButSpan b i c j → AlikeForests x y → sectionAt b i x ≡ sectionAt c j y
   unfolding sectionAt
   section-same i j x y h a = children-same (conjunctionAt b) (conjunctionAt c) conjunction-same i j h a
 
@@ -133,7 +133,7 @@ module _ (b c : List ℕ) where
   when-same (nodes {i = i} {j = j} h p q) =
       if-same _ _ _ _ _ _ (kind-is i j h 7) (ap whenever (condition-same i j h _ _ _ _ (conditions-same p) (values-same p))) (when-same q)
 
-  rule-same : (i j : ℕ) (x y : Forest) → SameButSpan b i c j → AlikeForests x y → ruleAt b i x ≡ ruleAt c j y
+  pub rule-same : (i j : ℕ) (x y : Forest) → SameButSpan b i c j → AlikeForests x y → ruleAt b i x ≡ ruleAt c j y
   unfolding ruleAt
   rule-same i j x y h a = rw (choice-same i j h, target-same a, when-same a) refl
 

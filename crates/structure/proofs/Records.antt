@@ -144,7 +144,7 @@ module _ (b : List ℕ) (i : ℕ) (c : List ℕ) (j : ℕ) (h : SameRecord b i c
   rules-same Operator = plain-same 1
   rules-same Nothing = refl
 
-  field-same : fieldOk b i ≡ fieldOk c j
+  pub field-same : fieldOk b i ≡ fieldOk c j
   unfolding fieldOk
   field-same = ap (rulesOf b i) (kind-same b i c j (but-span b i c j h)) ∙ rules-same (kindAt c j)
 

@@ -1,0 +1,13 @@
+pub mod Reordered
+pub mod Often
+pub mod Combined
+pub mod Stays
+pub mod Sentences
+pub mod Differs
+pub mod Rows
+pub mod Turned
+pub mod Moved
+pub mod Nodes
+pub mod Levels
+pub mod Small
+pub mod Books
