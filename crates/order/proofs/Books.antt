@@ -1,5 +1,5 @@
 -- The claims of specs/Books.antt: row by row. Assumes nothing.
-use Prim.Native.Nat.{ℕ, _≤_, _<_}
+use Prim.Native.Nat.{ℕ, _<_}
 use mathlib.Core.Path.{_≡_, refl, sym, _∙_}
 use mathlib.Core.Bool.{Bool}
 use mathlib.Core.List.{List}
@@ -10,8 +10,6 @@ use Rattle.fields.specs.Fields.{obligationsOf}
 use Rattle.meaning.specs.Policy.{Tree}
 use Rattle.meaning.specs.Reading.{bookOf}
 use Rattle.placement.specs.Keeps.{Keeps}
-use Rattle.judge.specs.Judge.{judgeOf}
-use Rattle.judge.specs.declared.Judged.the-variants.{Accepted}
 use Rattle.judge.proofs.Exactly.{accepted-keeps, kept-is-accepted}
 use Rattle.order.specs.Rearranged.{Rearranged}
 use Rattle.order.specs.Rearranged as tree

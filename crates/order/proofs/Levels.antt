@@ -36,7 +36,7 @@ use Rattle.structure.proofs.Parts.{by-own-bytes}
 use Rattle.structure.proofs.Books.{policy-operands}
 use Rattle.structure.proofs.ReadAlike.{AlikeForests, subtrees-alike, same-is-read-alike}
 use Rattle.order.specs.Books.{partyAt}
-use Rattle.order.specs.Rearranged.{Rearranged, rules, children, inside}
+use Rattle.order.specs.Rearranged.{Rearranged}
 use Rattle.order.proofs.Rows.{RowMoved}
 use Rattle.order.proofs.Turned.{row-turned}
 use Rattle.order.proofs.Nodes.{here, ReadTurned, read-after, read-inside, tree-turned}

@@ -1,6 +1,7 @@
 pub mod Reordered
 pub mod Often
 pub mod Combined
+pub mod Alike
 pub mod Stays
 pub mod Sentences
 pub mod Differs

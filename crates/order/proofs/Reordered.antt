@@ -1,7 +1,7 @@
 -- Laws of reordered lists. Assumes nothing.
 use mathlib.Core.Path.{_≡_, refl, ap, _∙_}
 use mathlib.Core.Bool.{Bool, true, false}
-use mathlib.Core.List.{List, [], _∷_, _++_}
+use mathlib.Core.List.{List, [], _∷_, _++_, map}
 use Prim.Native.Nat.{suc}
 use lib.ListN.{length}
 use Rattle.record.specs.Choose.{either}
@@ -34,6 +34,13 @@ behind zs none = same-order zs
 behind zs (keep r) = keep (behind zs r)
 behind zs swap = swap
 behind zs (then r s) = then (behind zs r) (behind zs s)
+
+-- one of each
+pub map-reordered : {A B : Type 0} (f : A → B) {xs ys : List A} → Reordered A xs ys → Reordered B (map f xs) (map f ys)
+map-reordered f none = none
+map-reordered f (keep r) = keep (map-reordered f r)
+map-reordered f swap = swap
+map-reordered f (then r s) = then (map-reordered f r) (map-reordered f s)
 
 -- what is gathered from each
 abbrev pub gather : {A B : Type 0} → (A → List B) → List A → List B
