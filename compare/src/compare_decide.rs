@@ -62,7 +62,7 @@ const OF_DOUBTS: usize = 5;
 const OF_ISSUERS: usize = 5;
 
 /// The bytes of output that a book with these records needs.
-fn needed(records: &[Record]) -> usize {
+pub fn needed(records: &[Record]) -> usize {
     2 * records.iter().filter(|record| record.kind() == OBLIGATION).count()
 }
 

@@ -56,7 +56,7 @@ pub fn check_book(library: &dyn Judge, bytes: &[u8], tally: &mut Tally) -> Resul
             for record in records(bytes).iter().filter(|record| record.issuer() != ANY) {
                 tally.met(ISSUER, record.name());
             }
-            256 * accepted.records as u64 + 16_777_216 * accepted.obligations as u64
+            accepted.packed()
         }
         Err(refused) => {
             refused.count(tally);

@@ -54,8 +54,7 @@ pub fn decide(book: &[u8], request: &[u8], tally: &mut Tally) -> (Answer, u64) {
 pub fn decide_by(ways: Ways, book: &[u8], request: &[u8], tally: &mut Tally) -> (Answer, u64) {
     let attributes = attributes(request);
     let root = tree(book);
-    let mut evaluator =
-        Evaluator { attributes: &attributes, tally, ways, asides: 0, waiting: 0, looked_at: 0, shown: Vec::new() };
+    let mut evaluator = Evaluator::new(&attributes, ways, tally);
     let answer = evaluator.whole(|inner| inner.policy(&root));
     evaluator.met("decision of the root", (root.name(), answer.decision.name()));
     evaluator.count_answer(&answer);
@@ -63,8 +62,24 @@ pub fn decide_by(ways: Ways, book: &[u8], request: &[u8], tally: &mut Tally) -> 
     (answer, evaluator.looked_at)
 }
 
+/// How a policy or set whose target is Match comes to its answer.
+pub type Combine = fn(&mut Evaluator, &Policy) -> Answer;
+
+pub fn combine(evaluator: &mut Evaluator, policy: &Policy) -> Answer {
+    match &policy.children {
+        Children::Rules(rules) => {
+            let decision = evaluator.rules(policy.algorithm, rules);
+            evaluator.conclude(policy, decision, &[])
+        }
+        Children::Policies(policies) => {
+            let (decision, evaluated) = evaluator.policies(policy.algorithm, policies);
+            evaluator.conclude(policy, decision, &evaluated)
+        }
+    }
+}
+
 impl Evaluator<'_> {
-    fn rule(&mut self, rule: &Rule) -> Decision {
+    pub fn rule(&mut self, rule: &Rule) -> Decision {
         self.look();
         let (why, decision) = match self.whole(|inner| inner.target(&rule.target)) {
             Truth::False => ("target No-match", NotApplicable),
@@ -94,16 +109,7 @@ impl Evaluator<'_> {
 
     /// The answer of a policy or set whose target is Match.
     pub fn applicable(&mut self, policy: &Policy) -> Answer {
-        match &policy.children {
-            Children::Rules(rules) => {
-                let decision = self.rules(policy.algorithm, rules);
-                self.conclude(policy, decision, &[])
-            }
-            Children::Policies(policies) => {
-                let (decision, evaluated) = self.policies(policy.algorithm, policies);
-                self.conclude(policy, decision, &evaluated)
-            }
-        }
+        (self.ways.combine)(self, policy)
     }
 
     // The algorithms over rules

@@ -6,12 +6,7 @@ use crate::record::*;
 use crate::status::Status;
 use crate::sums::{Operator, OPERATORS};
 use crate::truth::Truth;
-use crate::wished::{section, Maker, Role, DENY, PERMIT};
-
-const DENY_OVERRIDES: u8 = 1;
-const PERMIT_OVERRIDES: u8 = 2;
-const FIRST_APPLICABLE: u8 = 3;
-const ONLY_ONE: u8 = 4;
+use crate::wished::*;
 
 /// Targets of an only-one set's children: Match, No-match, Indeterminate.
 const TARGETS: [&str; 26] = [

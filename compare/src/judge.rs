@@ -24,6 +24,13 @@ pub struct Accepted {
     pub values: usize,
 }
 
+impl Accepted {
+    /// What judging answers.
+    pub fn packed(&self) -> u64 {
+        256 * self.records as u64 + 16_777_216 * self.obligations as u64
+    }
+}
+
 #[derive(Debug)]
 pub struct Refused {
     pub refusal: Refusal,

@@ -9,6 +9,7 @@ mod codes;
 mod compare_damaged;
 mod compare_decide;
 mod compare_judge;
+mod compare_order;
 mod compare_salvage;
 mod compare_text;
 mod compare_ticks;
@@ -26,6 +27,9 @@ mod linked;
 mod obligations;
 mod once;
 mod operands;
+mod order_counts;
+#[cfg(test)]
+mod order_tests;
 mod paper;
 #[cfg(test)]
 mod planted;
@@ -34,6 +38,8 @@ mod planted_codes;
 #[cfg(test)]
 mod planted_issuers;
 #[cfg(test)]
+mod planted_order;
+#[cfg(test)]
 mod planted_salvage;
 #[cfg(test)]
 mod planted_texts;
@@ -41,6 +47,9 @@ mod policy;
 mod random;
 mod record;
 mod refusal;
+mod reordering;
+#[cfg(test)]
+mod reordering_tests;
 mod requests;
 mod rig;
 mod run;
@@ -54,10 +63,12 @@ mod salvage_refused;
 mod salvage_tests;
 mod salvage_texts;
 mod salvaging;
+mod sorted;
 mod spoilt;
 mod status;
 #[cfg(test)]
 mod status_tests;
+mod stays;
 mod subject;
 mod sums;
 #[cfg(test)]
@@ -93,6 +104,7 @@ TIMES times, and fails if COUNT cases do not. NAME is
   ticks    translating and running         (library rig; host too, if it is there)
   damaged  damaged programmes and states   (library rig)
   salvage  salvaging half-copied books     (libraries mender, probe and host)
+  order    children in another order       (libraries probe, host and rig)
 
 `compare once` makes one call and compares it. Inputs are hexadecimal digits, `-` for none; ROOM is the
 length of the output. CALL is read-book, read-request, write-book, write-request (INPUT ROOM),
@@ -144,6 +156,7 @@ fn print_linked() {
         ("ticks", rig),
         ("damaged", rig),
         ("salvage", compare_salvage::linked().is_some()),
+        ("order", compare_order::linked().is_some()),
     ];
     for (name, _) in names.iter().filter(|(_, is_linked)| *is_linked) {
         println!("{name}");
@@ -183,6 +196,7 @@ fn run_named(name: &str, cases: Cases) -> Result<bool, String> {
                 compare_salvage::case(&calls, random, tally)
             }))
         }
+        "order" => Ok(run_on_books(name, cases, &compare_order::linked().ok_or_else(missing)??)),
         _ => Err(USAGE.to_string()),
     }
 }
@@ -198,6 +212,11 @@ fn run_on_rig(name: &str, cases: Cases, rig: &'static dyn Rig) -> Result<bool, S
     let machine = Machine::new(rig, linked::host())?;
     paper_holds(name, compare_ticks::check_paper(&machine))?;
     Ok(compare(name, cases, &compare_ticks::wanted(), |random, tally| compare_ticks::case(&machine, random, tally)))
+}
+
+/// The same for the comparison of books with the same reordered.
+fn run_on_books(name: &str, cases: Cases, calls: &compare_order::Calls) -> bool {
+    compare(name, cases, &order_counts::wanted(), |random, tally| compare_order::case(calls, random, tally))
 }
 
 /// The worked examples hold: document 01's own, of salvaging those found by hand.

@@ -145,6 +145,31 @@ pub enum Algorithm {
     OnlyOneApplicable,
 }
 
+impl Algorithm {
+    /// That of a policy or set.
+    pub fn of(record: &Record) -> Algorithm {
+        match record.choice() {
+            1 => Algorithm::DenyOverrides,
+            2 => Algorithm::PermitOverrides,
+            3 => Algorithm::FirstApplicable,
+            _ => Algorithm::OnlyOneApplicable,
+        }
+    }
+
+    /// What it is called in the tables of counts, over rules or over policies.
+    pub fn name(self, over_rules: bool) -> &'static str {
+        match (self, over_rules) {
+            (Algorithm::DenyOverrides, true) => "deny-overrides over rules",
+            (Algorithm::PermitOverrides, true) => "permit-overrides over rules",
+            (_, true) => "first-applicable over rules",
+            (Algorithm::DenyOverrides, _) => "deny-overrides over policies",
+            (Algorithm::PermitOverrides, _) => "permit-overrides over policies",
+            (Algorithm::FirstApplicable, _) => "first-applicable over policies",
+            (Algorithm::OnlyOneApplicable, _) => "only-one-applicable",
+        }
+    }
+}
+
 pub struct Obligation {
     pub effect: Decision,
     pub number: u16,
@@ -173,15 +198,7 @@ impl Policy {
 
     /// What the algorithm is called in the tables of counts.
     pub fn algorithm_name(&self) -> &'static str {
-        match (self.algorithm, &self.children) {
-            (Algorithm::DenyOverrides, Children::Rules(_)) => "deny-overrides over rules",
-            (Algorithm::PermitOverrides, Children::Rules(_)) => "permit-overrides over rules",
-            (_, Children::Rules(_)) => "first-applicable over rules",
-            (Algorithm::DenyOverrides, _) => "deny-overrides over policies",
-            (Algorithm::PermitOverrides, _) => "permit-overrides over policies",
-            (Algorithm::FirstApplicable, _) => "first-applicable over policies",
-            (Algorithm::OnlyOneApplicable, _) => "only-one-applicable",
-        }
+        self.algorithm.name(matches!(self.children, Children::Rules(_)))
     }
 }
 
@@ -225,19 +242,13 @@ fn children_of<T>(subtree: &[Record], kinds: &[u8], make: fn(&[Record]) -> T) ->
 }
 
 fn policy(subtree: &[Record]) -> Policy {
-    let algorithm = match subtree[0].choice() {
-        1 => Algorithm::DenyOverrides,
-        2 => Algorithm::PermitOverrides,
-        3 => Algorithm::FirstApplicable,
-        _ => Algorithm::OnlyOneApplicable,
-    };
     let below = if subtree[0].kind() == POLICY {
         Children::Rules(children_of(subtree, &[RULE], rule))
     } else {
         Children::Policies(children_of(subtree, &[SET, POLICY], policy))
     };
     let obligations = children_of(subtree, &[OBLIGATION], obligation);
-    Policy { algorithm, target: target(subtree), children: below, obligations }
+    Policy { algorithm: Algorithm::of(&subtree[0]), target: target(subtree), children: below, obligations }
 }
 
 fn rule(subtree: &[Record]) -> Rule {

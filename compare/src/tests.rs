@@ -16,6 +16,7 @@ use crate::paper;
 use crate::planted;
 use crate::planted_codes;
 use crate::planted_issuers;
+use crate::planted_order::{self, has_policy_after_set};
 use crate::planted_texts;
 use crate::policy::Decision;
 use crate::random::Random;
@@ -332,6 +333,7 @@ pub enum Plan {
     AnswerTooEarly,
     BudgetNotUsed,
     OutsideNotRefused,
+    Order(planted_order::Error),
 }
 
 pub struct Model(pub Plan);
@@ -373,7 +375,10 @@ impl Texts for Model {
 impl Judge for Model {
     fn judge_book(&self, book: &[u8]) -> u64 {
         match judge::book(book) {
-            Ok(accepted) => 256 * accepted.records as u64 + 16_777_216 * accepted.obligations as u64,
+            Ok(_) if self.0 == Plan::Order(planted_order::Error::PolicyAfterSet) && has_policy_after_set(book) => {
+                refuse(11, Part::Book).packed()
+            }
+            Ok(accepted) => accepted.packed(),
             Err(refused) => self.refused_book(book, refused),
         }
     }
@@ -614,7 +619,11 @@ impl Model {
             Plan::LargerCode => planted_codes::larger,
             _ => RIGHT.pick,
         };
-        Ways { apply, pick, takes: self.takes() }
+        let combine = match self.0 {
+            Plan::Order(error) => error.combine(),
+            _ => RIGHT.combine,
+        };
+        Ways { apply, pick, takes: self.takes(), combine }
     }
 
     fn takes(&self) -> Takes {

@@ -1,6 +1,7 @@
 //! Bag, match, comparison, logic and target of documents 01 and 02, from left to right and stopping where a
 //! part settles the answer. Each thing met on the way is counted.
 
+use crate::decide::{self, Combine};
 use crate::policy::*;
 use crate::record::ANY;
 use crate::status::{self, Lost, Outcome, Pick, Status};
@@ -21,9 +22,10 @@ pub struct Ways {
     pub apply: Apply,
     pub pick: Pick,
     pub takes: Takes,
+    pub combine: Combine,
 }
 
-pub const RIGHT: Ways = Ways { apply: sums::apply, pick: status::first, takes };
+pub const RIGHT: Ways = Ways { apply: sums::apply, pick: status::first, takes, combine: decide::combine };
 
 /// Whether something of this name that asks for an issuer takes a value that another, or the same, vouches for.
 pub type Takes = fn(&'static str, u16, u16) -> bool;
@@ -44,6 +46,12 @@ pub struct Evaluator<'a> {
     pub looked_at: u64,
     /// What is counted if it turns out to be where the answer's code comes from.
     pub shown: Vec<(&'static str, Item)>,
+}
+
+impl<'a> Evaluator<'a> {
+    pub fn new(attributes: &'a [Attribute], ways: Ways, tally: &'a mut Tally) -> Evaluator<'a> {
+        Evaluator { attributes, tally, ways, asides: 0, waiting: 0, looked_at: 0, shown: Vec::new() }
+    }
 }
 
 impl Evaluator<'_> {

@@ -6,9 +6,7 @@ use crate::policy::Value;
 use crate::random::Random;
 use crate::record::*;
 use crate::truth::{holds, takes, FUNCTIONS};
-use crate::wished::{self, section, Maker, DENY};
-
-const PERMIT_OVERRIDES: u8 = 2;
+use crate::wished::{self, section, Maker, DENY, PERMIT_OVERRIDES};
 
 /// An issuer.
 pub fn somebody(random: &mut Random) -> u16 {

@@ -12,6 +12,11 @@ use crate::vouched;
 pub const PERMIT: u8 = 1;
 pub const DENY: u8 = 2;
 
+pub const DENY_OVERRIDES: u8 = 1;
+pub const PERMIT_OVERRIDES: u8 = 2;
+pub const FIRST_APPLICABLE: u8 = 3;
+pub const ONLY_ONE: u8 = 4;
+
 pub struct Maker<'r> {
     pub random: &'r mut Random,
     pub entries: Vec<Entry>,
