@@ -23,13 +23,11 @@ use Rattle.judge.specs.declared.JudgedRequest.{JudgedRequest}
 use Rattle.judge.specs.declared.JudgedRequest.the-variants as request
 use Rattle.decider.specs.Outcome.{dutiesOf, inOrder, outcomeOf}
 use Rattle.decider.specs.declared.Outcome.the-variants.{Decided, Refused}
-use Rattle.order.specs.Rearranged.{Rearranged}
 use Rattle.order.specs.Stays.{decision}
 use Rattle.order.specs.Books.{RearrangedBook}
 use Rattle.order.proofs.Reordered.{as-many}
-use Rattle.order.proofs.Stays.{decision-stays, answer-stays, numbers-stay}
 use Rattle.order.proofs.Small.{rearranged-small}
-use Rattle.order.proofs.Books.{rearranged-is-accepted, rearranged-is-read}
+use Rattle.order.proofs.Books.{rearranged-is-accepted, book-keeps-decision, book-keeps-answer, book-keeps-numbers}
 use Rattle.host.specs.Host.{hostNumber, pairsOf, hostOutcome, hostOut}
 use Rattle.calls.specs.Codes.{plainNumber}
 use Rattle.calls.specs.Decides.{ByMeaning}
@@ -75,9 +73,6 @@ module _ (b q out buffer numbers places : List ℕ) (a : Asked b q out buffer nu
         places-room = a .places-room;
       }
 
-  tree : (may : Tree → Bool) (c : List ℕ) → RearrangedBook may b c → Rearranged may (bookOf b) (bookOf c)
-  tree may c r = rearranged-is-read may b c (a .records) (a .obligations) r (a .book)
-
 -- decisions and counts that are the same are the same number
 same-number : (b c q out : List ℕ) → ByMeaning b q out → ByMeaning c q out → decision (bagsOf q) (bookOf b) ≡ decision (bagsOf q) (bookOf c)
     → length (obliges (bagsOf q) (bookOf b)) ≡ length (obliges (bagsOf q) (bookOf c)) → plainNumber b q out ≡ plainNumber c q out
@@ -86,13 +81,13 @@ same-number b c q out x y d l = let n = ap numberOf d in omega (arith, x .0, y .
 pub decision-kept : DecisionKept
 decision-kept b c q out buffer numbers places a r =
     let z = asked b q out buffer numbers places a _ c r in
-    let e = decision-stays (bookOf b) (bookOf c) (tree b q out buffer numbers places a _ c r) (bagsOf q) in
+    let e = book-keeps-decision b c q (a .records) (a .obligations) (a .book) r in
     (decided b q out buffer numbers places a ∙ ap numberOf e ∙ sym (decided c q out buffer numbers places z), rw e (ends c q out buffer numbers places z))
 
 pub answer-kept : AnswerKept
 answer-kept b c q out buffer numbers places a r =
     let z = asked b q out buffer numbers places a _ c r in
-    let e = answer-stays (bookOf b) (bookOf c) (tree b q out buffer numbers places a _ c r) (bagsOf q) in
+    let e = book-keeps-answer b c q (a .records) (a .obligations) (a .book) r in
     let x = meant b q out buffer numbers places a in
     let y = meant c q out buffer numbers places z in (
       same-number b c q out x y (e .0) (ap length (e .1)),
@@ -103,7 +98,7 @@ answer-kept b c q out buffer numbers places a r =
 pub numbers-kept : NumbersKept
 numbers-kept b c q out buffer numbers places a r =
     let z = asked b q out buffer numbers places a _ c r in
-    let e = numbers-stay (bagsOf q) (bookOf b) (bookOf c) (tree b q out buffer numbers places a _ c r) in
+    let e = book-keeps-numbers b c q (a .records) (a .obligations) (a .book) r in
     let x = meant b q out buffer numbers places a in
     let y = meant c q out buffer numbers places z in (
       same-number b c q out x y (e .0) (as-many (e .1)),

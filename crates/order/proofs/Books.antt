@@ -8,12 +8,14 @@ use native.Mathlib.Nat.{eq-or-lt-of-le}
 use native.Mathlib.Omega.{arith}
 use Rattle.fields.specs.Fields.{obligationsOf}
 use Rattle.meaning.specs.Policy.{Tree}
-use Rattle.meaning.specs.Reading.{bookOf}
+use Rattle.meaning.specs.Reading.{bookOf, bagsOf}
 use Rattle.placement.specs.Keeps.{Keeps}
 use Rattle.judge.proofs.Exactly.{accepted-keeps, kept-is-accepted}
 use Rattle.order.specs.Rearranged.{Rearranged}
 use Rattle.order.specs.Rearranged as tree
-use Rattle.order.specs.Books.{RowReordered, RearrangedBook, as-is, reorders, RearrangedIsAccepted, RearrangedIsRead}
+use Rattle.order.specs.Books.{RowReordered, RearrangedBook, as-is, reorders, RearrangedIsAccepted, RearrangedIsRead, BookKeepsDecision, BookKeepsAnswer, BookKeepsNumbers}
+use Rattle.order.specs.Stays.{keepsDecision, keepsAnswer}
+use Rattle.order.proofs.Stays.{decision-stays, answer-stays, numbers-stay}
 use Rattle.order.proofs.Moved.{row-upto, row-moved, row-none, row-whole}
 use Rattle.order.proofs.Levels.{book-turned}
 
@@ -54,3 +56,12 @@ rearranged-is-accepted may b c n o r e =
 
 pub rearranged-is-read : RearrangedIsRead
 rearranged-is-read may b c n o r e = book-kept may n (accepted-keeps b n o e .0) r .tree
+
+pub book-keeps-decision : BookKeepsDecision
+book-keeps-decision b c q n o e r = decision-stays (bookOf b) (bookOf c) (rearranged-is-read keepsDecision b c n o r e) (bagsOf q)
+
+pub book-keeps-answer : BookKeepsAnswer
+book-keeps-answer b c q n o e r = answer-stays (bookOf b) (bookOf c) (rearranged-is-read keepsAnswer b c n o r e) (bagsOf q)
+
+pub book-keeps-numbers : BookKeepsNumbers
+book-keeps-numbers b c q n o e r = numbers-stay (bagsOf q) (bookOf b) (bookOf c) (rearranged-is-read _ b c n o r e)

@@ -17,6 +17,7 @@ use Rattle.meaning.specs.Numbers.{keyBy}
 use Rattle.meaning.specs.Meaning.{gives, comparisonOf, conditionOf, conditionsOf, sectionsOf, targetOf, whenOf, ruleOf, combine, handed, ownOf, verdictOf, nodeOf, algorithmOf, ruleChild, ruleChildren, childOf, childrenOf, decides, obliges}
 use Rattle.meaning.specs.Reading.{keyAt, testAt, comparisonAt, targetIn, conditionAt, conditionsIn, whenIn, ruleAt, rulesIn, obligationsIn, treeAt, treesIn, bookOf, bagFrom, bagsOf}
 use Rattle.meaning.specs.declared.Algorithm.{Algorithm}
+use Rattle.meaning.specs.declared.Verdict.{Verdict}
 use Rattle.operands.specs.Parent.{endOf, parentOf}
 use Rattle.operands.specs.Operands.{operandsAt}
 use Rattle.placement.specs.Place.{elderOf, depthOf, holdsConditions, singleOf, rankAt, elderRank, standsOk, childRule, childBroken, topOk, brokenAt, placeOk}
@@ -27,7 +28,7 @@ use Rattle.judge.specs.declared.JudgedRequest.the-variants as request
 use Rattle.structure.specs.Subtrees.{sliceOf}
 use Rattle.order.specs.Reordered.{swap}
 use Rattle.order.specs.Books.{movable, end, next, together, as-is, reorders}
-use Rattle.order.specs.Differs.{Answer, answer, Differs, FirstOverRules, FirstOverPolicies, DenyOverridesDenies, PermitOverridesPermits, DenyOverridesPermits, OtherCode}
+use Rattle.order.specs.Differs.{Differs, FirstOverRules, FirstOverPolicies, DenyOverridesDenies, PermitOverridesPermits, DenyOverridesPermits, OtherCode}
 
 -- the child at record i changes places with the one after it
 abbrev exchange : List ℕ → ℕ → List ℕ
@@ -36,12 +37,13 @@ exchange b i =
     take (i * size) b ++ (together (sliceOf b j (spanOf b j) ∷ sliceOf b i (spanOf b i) ∷ []) ++ drop ((j + spanOf b j) * size) b)
 
 -- a book whose children at record i and after it are exchanged, and what is computed of it
-differs : {kind : ℕ} {a : Algorithm} {before after : Answer} (b q : List ℕ) (i n o m : ℕ)
+differs : {kind : ℕ} {a : Algorithm} {v w : Verdict} {os ps : List ℕ} (b q : List ℕ) (i n o m : ℕ)
     → judgeOf b ≡ book.Accepted n o → judgeRequestOf q ≡ request.Accepted m
     → (byteOf b 0 0 ≡ kind) × (algorithmOf (bookOf b) ≡ a)
     → (parentOf b i ≡ 0) × (movable b i ≡ true) × (parentOf b (i + spanOf b i) ≡ 0) × (movable b (i + spanOf b i) ≡ true)
-    → (answer b q ≡ before) × (answer (exchange b i) q ≡ after) → Differs kind a before after
-differs b q i n o m accepted asked top children answers =
+    → (decides (bagsOf q) (bookOf b) ≡ v) × (obliges (bagsOf q) (bookOf b) ≡ os)
+    → (decides (bagsOf q) (bookOf (exchange b i)) ≡ w) × (obliges (bagsOf q) (bookOf (exchange b i)) ≡ ps) → Differs kind a v os w ps
+differs b q i n o m accepted asked top children old new =
     let j : ℕ = i + spanOf b i in
     let x : List ℕ = sliceOf b i (spanOf b i) in
     let y : List ℕ = sliceOf b j (spanOf b j) in
@@ -66,7 +68,8 @@ differs b q i n o m accepted asked top children answers =
         reordered = swap;
         bytes = refl;
       }) as-is;
-      answers = answers;
+      old-answer = old;
+      new-answer = new;
     }
 
 -- a line by its first eight bytes; the others are zero
@@ -121,12 +124,12 @@ unfolding line permitRule denyRule rules policies obliging denying permitting pe
     bookOf treesIn treeAt obligationsIn rulesIn ruleAt whenIn conditionsIn conditionAt targetIn comparisonAt testAt keyAt bagsOf bagFrom
     forest growF spanIn spanOf bigOf functionOf valueOf finiteOf signed64 andAll orAll targetAll sliceOf
 examples = (
-  differs rules [] 1 3 0 0 refl refl (refl, refl) (refl, refl, refl, refl) (refl, refl),
-  differs policies [] 1 5 0 0 refl refl (refl, refl) (refl, refl, refl, refl) (refl, refl),
-  differs denying [] 1 7 2 0 refl refl (refl, refl) (refl, refl, refl, refl) (refl, refl),
-  differs permitting [] 1 7 2 0 refl refl (refl, refl) (refl, refl, refl, refl) (refl, refl),
-  differs permitted [] 1 7 2 0 refl refl (refl, refl) (refl, refl, refl, refl) (refl, refl),
-  differs unsure twice 1 7 0 2 refl refl (refl, refl) (refl, refl, refl, refl) (refl, refl),
+  differs rules [] 1 3 0 0 refl refl (refl, refl) (refl, refl, refl, refl) (refl, refl) (refl, refl),
+  differs policies [] 1 5 0 0 refl refl (refl, refl) (refl, refl, refl, refl) (refl, refl) (refl, refl),
+  differs denying [] 1 7 2 0 refl refl (refl, refl) (refl, refl, refl, refl) (refl, refl) (refl, refl),
+  differs permitting [] 1 7 2 0 refl refl (refl, refl) (refl, refl, refl, refl) (refl, refl) (refl, refl),
+  differs permitted [] 1 7 2 0 refl refl (refl, refl) (refl, refl, refl, refl) (refl, refl) (refl, refl),
+  differs unsure twice 1 7 0 2 refl refl (refl, refl) (refl, refl, refl, refl) (refl, refl) (refl, refl),
 )
 
 pub first-over-rules : FirstOverRules

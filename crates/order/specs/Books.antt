@@ -11,12 +11,14 @@ use Rattle.record.specs.Bytes.{size, byteOf, spanOf}
 use Rattle.record.specs.Forest.{forest}
 use Rattle.operands.specs.Parent.{parentOf}
 use Rattle.meaning.specs.Policy.{Tree}
-use Rattle.meaning.specs.Reading.{treeAt, treesIn, bookOf}
+use Rattle.meaning.specs.Meaning.{obliges}
+use Rattle.meaning.specs.Reading.{treeAt, treesIn, bookOf, bagsOf}
 use Rattle.judge.specs.Judge.{judgeOf}
 use Rattle.judge.specs.declared.Judged.the-variants.{Accepted}
 use Rattle.structure.specs.Subtrees.{sliceOf}
 use Rattle.order.specs.Reordered.{Reordered}
 use Rattle.order.specs.Rearranged.{Rearranged}
+use Rattle.order.specs.Stays.{decision, keepsDecision, keepsAnswer, keepsNumbers}
 
 -- the kinds whose records may be moved: a rule, a policy set, a policy
 abbrev pub moves : ℕ → Bool
@@ -66,3 +68,20 @@ RearrangedIsAccepted =
 abbrev pub RearrangedIsRead : Type 0
 RearrangedIsRead =
     (may : Tree → Bool) (b c : List ℕ) (n o : ℕ) → RearrangedBook may b c → judgeOf b ≡ Accepted n o → Rearranged may (bookOf b) (bookOf c)
+
+-- So of two such books, for every request: the decision stays; the whole answer; the numbers of the obligations. What may be reordered for each is in
+-- specs/Stays.antt.
+abbrev pub BookKeepsDecision : Type 0
+BookKeepsDecision =
+    (b c q : List ℕ) (n o : ℕ) → judgeOf b ≡ Accepted n o → RearrangedBook keepsDecision b c
+    → decision (bagsOf q) (bookOf b) ≡ decision (bagsOf q) (bookOf c)
+
+abbrev pub BookKeepsAnswer : Type 0
+BookKeepsAnswer =
+    (b c q : List ℕ) (n o : ℕ) → judgeOf b ≡ Accepted n o → RearrangedBook keepsAnswer b c
+    → (decision (bagsOf q) (bookOf b) ≡ decision (bagsOf q) (bookOf c)) × (obliges (bagsOf q) (bookOf b) ≡ obliges (bagsOf q) (bookOf c))
+
+abbrev pub BookKeepsNumbers : Type 0
+BookKeepsNumbers =
+    (b c q : List ℕ) (n o : ℕ) → judgeOf b ≡ Accepted n o → RearrangedBook (keepsNumbers (bagsOf q) (decision (bagsOf q) (bookOf b))) b c
+    → (decision (bagsOf q) (bookOf b) ≡ decision (bagsOf q) (bookOf c)) × Reordered ℕ (obliges (bagsOf q) (bookOf b)) (obliges (bagsOf q) (bookOf c))

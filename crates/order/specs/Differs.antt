@@ -23,16 +23,8 @@ use Rattle.order.specs.Books.{RearrangedBook}
 abbrev pub anyParty : Tree → Bool
 anyParty n = true
 
--- an answer: a verdict, and obligations
-pub record Answer : Type 0 where
-  pub verdict : Verdict
-  pub duties : List ℕ
-
-abbrev pub answer : List ℕ → List ℕ → Answer
-answer b q = record { verdict = decides (bagsOf q) (bookOf b); duties = obliges (bagsOf q) (bookOf b) }
-
--- a book whose line 1 has this kind and algorithm, and its answers before and after
-pub record Differs (kind : ℕ) (a : Algorithm) (before after : Answer) : Type 0 where
+-- a book whose line 1 has this kind and algorithm; its verdict and obligations, and those after
+pub record Differs (kind : ℕ) (a : Algorithm) (v : Verdict) (os : List ℕ) (w : Verdict) (ps : List ℕ) : Type 0 where
   pub old : List ℕ
   pub new : List ℕ
   pub asked : List ℕ
@@ -43,29 +35,27 @@ pub record Differs (kind : ℕ) (a : Algorithm) (before after : Answer) : Type 0
   pub request : judgeRequestOf asked ≡ request.Accepted entries
   pub line-one : (byteOf old 0 0 ≡ kind) × (algorithmOf (bookOf old) ≡ a)
   pub rearranged : RearrangedBook anyParty old new
-  pub answers : (answer old asked ≡ before) × (answer new asked ≡ after)
-
-abbrev pub says : Verdict → List ℕ → Answer
-says v os = record { verdict = v; duties = os }
+  pub old-answer : (decides (bagsOf asked) (bookOf old) ≡ v) × (obliges (bagsOf asked) (bookOf old) ≡ os)
+  pub new-answer : (decides (bagsOf asked) (bookOf new) ≡ w) × (obliges (bagsOf asked) (bookOf new) ≡ ps)
 
 -- first-applicable over rules, and over policies: another decision
 abbrev pub FirstOverRules : Type 0
-FirstOverRules = Differs 2 First (says Permit []) (says Deny [])
+FirstOverRules = Differs 2 First Permit [] Deny []
 
 abbrev pub FirstOverPolicies : Type 0
-FirstOverPolicies = Differs 1 First (says Permit []) (says Deny [])
+FirstOverPolicies = Differs 1 First Permit [] Deny []
 
 -- deny-overrides over policies that denies, and permit-overrides that permits: the obligations of the first child that does, so other numbers
 abbrev pub DenyOverridesDenies : Type 0
-DenyOverridesDenies = Differs 1 PoliciesDeny (says Deny (1 ∷ [])) (says Deny (2 ∷ []))
+DenyOverridesDenies = Differs 1 PoliciesDeny Deny (1 ∷ []) Deny (2 ∷ [])
 
 abbrev pub PermitOverridesPermits : Type 0
-PermitOverridesPermits = Differs 1 PoliciesPermit (says Permit (1 ∷ [])) (says Permit (2 ∷ []))
+PermitOverridesPermits = Differs 1 PoliciesPermit Permit (1 ∷ []) Permit (2 ∷ [])
 
 -- deny-overrides that permits: the same numbers in another order
 abbrev pub DenyOverridesPermits : Type 0
-DenyOverridesPermits = Differs 1 PoliciesDeny (says Permit (1 ∷ 2 ∷ [])) (says Permit (2 ∷ 1 ∷ []))
+DenyOverridesPermits = Differs 1 PoliciesDeny Permit (1 ∷ 2 ∷ []) Permit (2 ∷ 1 ∷ [])
 
 -- and an Indeterminate may have another code
 abbrev pub OtherCode : Type 0
-OtherCode = Differs 1 PoliciesPermit (says (Indeterminate Missing) []) (says (Indeterminate Processing) [])
+OtherCode = Differs 1 PoliciesPermit (Indeterminate Missing) [] (Indeterminate Processing) []
