@@ -30,16 +30,15 @@ same-kept may b c n k e = rw e (record { keeps = k; owes = refl; tree = tree.as-
 
 row-kept : (may : Tree → Bool) (b c : List ℕ) (n : ℕ) → Keeps b n → RowReordered may b c → Kept may b c n
 row-kept may b c n k w =
-    let p : ℕ = w .parent in
-    ⊎-elim (λ (q : w .first ≡ w .last). same-kept may b c n k (row-none b c n p (w .first) (w .last) (w .before) (w .after) k (w .row) (w .reordered) (w .bytes) q))
+    ⊎-elim (λ (q : w .first ≡ w .last). same-kept may b c n k (row-none b c n k (w .row) (w .reordered) (w .bytes) q))
     (λ (l : w .first < w .last).
-    ⊎-elim (λ (q : 0 ≡ w .first). same-kept may b c n k (row-whole b c n p (w .first) (w .last) (w .before) (w .after) k (w .row) (w .reordered) (w .bytes) (sym q)))
+    ⊎-elim (λ (q : 0 ≡ w .first). same-kept may b c n k (row-whole b c n k (w .row) (w .reordered) (w .bytes) (sym q)))
     (λ (z : 0 < w .first).
-    let m = row-moved b c n p (w .first) (w .last) (w .before) (w .after) k (w .row) (w .reordered) (w .bytes) z l in
-    let t = book-turned may b c n p (w .first) (w .last) (w .before) (w .after) m (w .lets) k in
+    let m = row-moved b c n k (w .row) (w .reordered) (w .bytes) z l in
+    let t = book-turned may b c m (w .lets) k in
     record { keeps = t .0; owes = m .owes; tree = t .1 })
     (eq-or-lt-of-le (omega arith)))
-    (eq-or-lt-of-le (row-upto b p (w .row)))
+    (eq-or-lt-of-le (row-upto b (w .parent) (w .row)))
 
 book-kept : (may : Tree → Bool) {b c : List ℕ} (n : ℕ) → Keeps b n → RearrangedBook may b c → Kept may b c n
 book-kept may n k as-is = record { keeps = k; owes = refl; tree = tree.as-is }

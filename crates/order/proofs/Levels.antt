@@ -167,7 +167,7 @@ unfolding bookOf
 book-is b n z = let bytes = z .bytes in let e : length b / size ≡ n = omega arith in rw e refl
 
 -- c is b with a row of children of record p reordered
-module _ (may : Tree → Bool) (b c : List ℕ) (n p first last : ℕ) (before after : List (List ℕ)) (moved : RowMoved b c n p first last before after)
+module _ (may : Tree → Bool) (b c : List ℕ) {n p first last : ℕ} {before after : List (List ℕ)} (moved : RowMoved b c n p first last before after)
     (lets : may (partyAt b p) ≡ true) where
   same-before : (i s : ℕ) → i + s ≤ first → SameRecords b i c i s
   same-before i s l m x = let e : 0 + (i + m) ≡ i + m = omega arith in rw e at (moved .head (i + m) (omega arith))

@@ -249,7 +249,7 @@ row-owes b c n first last before after le head tail r old new =
     omega arith
 
 -- a row of the book, reordered
-module _ (b c : List ℕ) (n p first last : ℕ) (before after : List (List ℕ)) (k : Keeps b n) (row : Row b p first last before)
+module _ (b c : List ℕ) (n : ℕ) (k : Keeps b n) {p first last : ℕ} {before after : List (List ℕ)} (row : Row b p first last before)
     (r : Reordered (List ℕ) before after) (e : c ≡ take (first * size) b ++ (together after ++ drop (last * size) b)) where
   pub row-moved : 0 < first → first < last → RowMoved b c n p first last before after
   row-moved z l =
