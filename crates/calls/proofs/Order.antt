@@ -10,12 +10,13 @@ use Rattle.record.specs.Choose.{if}
 use Rattle.record.specs.Refusals.{noRoom}
 use Rattle.record.specs.declared.Refusal.{Refusal}
 use Rattle.meaning.specs.Policy.{Tree}
-use Rattle.meaning.specs.Meaning.{decides, obliges}
-use Rattle.meaning.specs.Numbers.{numberOf}
+use Rattle.meaning.specs.Meaning.{decisionIn, decides, obliges}
+use Rattle.meaning.specs.Numbers.{numberOf, codeNumber}
 use Rattle.meaning.specs.Reading.{bookOf, bagsOf}
 use Rattle.meaning.specs.declared.Decision.{Decision}
 use Rattle.meaning.specs.declared.Decision.the-variants.{Permit, Deny, NotApplicable, Indeterminate}
 use Rattle.meaning.specs.declared.Verdict.{Verdict}
+use Rattle.meaning.specs.declared.Verdict.the-variants as verdict
 use Rattle.judge.specs.Judge.{judgeOf}
 use Rattle.judge.specs.Request.{judgeRequestOf}
 use Rattle.judge.specs.declared.Judged.the-variants.{Accepted}
@@ -31,7 +32,7 @@ use Rattle.order.proofs.Books.{rearranged-is-accepted, book-keeps-decision, boo
 use Rattle.host.specs.Host.{hostNumber, pairsOf, hostOutcome, hostOut}
 use Rattle.calls.specs.Codes.{plainNumber}
 use Rattle.calls.specs.Decides.{ByMeaning}
-use Rattle.calls.specs.Order.{Asked, Ends, DecisionKept, AnswerKept, NumbersKept, RefusedAlike}
+use Rattle.calls.specs.Order.{Asked, Ends, PlainIsWhole, DecisionKept, AnswerKept, NumbersKept, RefusedAlike}
 use Rattle.calls.proofs.Decides.{decides-right}
 use Rattle.calls.proofs.Loop.{every-row}
 
@@ -41,6 +42,16 @@ small Permit = omega arith
 small Deny = omega arith
 small NotApplicable = omega arith
 small Indeterminate = omega arith
+
+-- nothing but an Indeterminate has a code
+pub plain-is-whole : PlainIsWhole
+plain-is-whole b q out h = rw (go (decides (bagsOf q) (bookOf b)) h) (omega arith)
+  where
+    go : (v : Verdict) → (decisionIn v ≡ Indeterminate → ⊥) → codeNumber v ≡ 0
+    go verdict.Permit h = refl
+    go verdict.Deny h = refl
+    go verdict.NotApplicable h = refl
+    go (verdict.Indeterminate s) h = absurd (h refl)
 
 -- of a book that is asked, and of one that it was rearranged to
 module _ (b q out buffer numbers places : List ℕ) (a : Asked b q out buffer numbers places) where

@@ -11,6 +11,7 @@ use Rattle.meaning.specs.Policy.{Tree}
 use Rattle.meaning.specs.Meaning.{decisionIn, obliges}
 use Rattle.meaning.specs.Reading.{bookOf, bagsOf}
 use Rattle.meaning.specs.declared.Decision.{Decision}
+use Rattle.meaning.specs.declared.Decision.the-variants.{Indeterminate}
 use Rattle.meaning.specs.declared.Verdict.{Verdict}
 use Rattle.judge.specs.Judge.{judgeOf}
 use Rattle.judge.specs.Request.{judgeRequestOf}
@@ -49,6 +50,11 @@ pub record Ends (b q buffer numbers places : List ℕ) (d : Decision) (os : List
 -- the output of `bachumoi_decide` holds these obligations first, as byte pairs, and zero in every other byte
 abbrev pub Holding : List ℕ → List ℕ → List ℕ → List ℕ → Type 0
 Holding b q out os = hostOut b q out ≡ pairsOf os ++ replicate (length out - 2 * length os) 0
+
+-- the number but for its code is the whole number, unless it is Indeterminate
+abbrev pub PlainIsWhole : Type 0
+PlainIsWhole =
+    (b q out : List ℕ) → (decision (bagsOf q) (bookOf b) ≡ Indeterminate → ⊥) → plainNumber b q out ≡ hostNumber (hostOutcome b q out)
 
 -- where nothing was reordered under first-applicable: the same decision
 abbrev pub DecisionKept : Type 0
