@@ -36,14 +36,19 @@ pub fn finite(n: u64) -> bool
     n / 4503599627370496 % 2048 != 2047
 }
 
-// Eight bytes as a signed number. Where the top bit is set, n - 2^64 is (n - 2^63) - 2^63.
+// The top bit of eight bytes alone, as a number: 2^63.
+const TOP_BIT: u64 = 9223372036854775808;
+
+// Eight bytes as a signed number: the unsigned number, less 2^64 when the top bit is set. No 64 bits hold 2^64, so n - 2^64 is
+// written -1 - (2^64 - 1 - n).
 pub fn signed(n: u64) -> i64
     ensures { λ r. ⌜ r ≡ signed64 n ⌝ }
 {
-    if n < 9223372036854775808 {
-        return n as i64;
+    if n >= TOP_BIT {
+        let below = u64::MAX - n;
+        return -1 - below as i64;
     }
-    (n - 9223372036854775808) as i64 + i64::MIN
+    n as i64
 }
 
 // The value that eight bytes of the type kind stand for.
