@@ -1159,6 +1159,7 @@ int main(void)
     examples("examples/a");
     examples("examples/rig");
     examples("examples/zero");
+    examples("examples/sign");
     examples("examples/sum");
     examples("examples/why");
     examples("examples/refused/9");

@@ -17,10 +17,11 @@ extern "C" {
 /* ---- Deciding: link libhost.a ------------------------------------------------------------------------------
  *
  *   book     book_len bytes: 1 to 1,000 records of 20 bytes, parent first
- *   request  request_len bytes: 0 to 64 entries of 20 bytes. A double is compared as C compares it: -0.0 is 0.0. A
- *            name is told by its eight bytes. A sum in a condition is exact for integers and rounded once for
- *            doubles; one that has no result (no 64 bits hold it, a divisor is 0, a double is not finite, an attribute
- *            is missing or there twice) makes its comparison Indeterminate
+ *   request  request_len bytes: 0 to 64 entries of 20 bytes. An integer's eight bytes, the highest first, are an
+ *            int64_t: the unsigned number, less two to the power 64 when the top bit is set. A double is compared as C
+ *            compares it: -0.0 is 0.0. A name is told by its eight bytes. A sum in a condition is exact for integers
+ *            and rounded once for doubles; one that has no result (no 64 bits hold it, a divisor is 0, a double is not
+ *            finite, an attribute is missing or there twice) makes its comparison Indeterminate
  *   out      out_len bytes, for the obligations: at least twice as many bytes as the book has obligation records
  *
  * Bytes 16 and 17 of a record or entry, the higher first, are its issuer. In an entry that is who vouches for its

@@ -265,6 +265,9 @@ pub fn obligation(effect: u8, number: u16) -> Record {
 const NAMES: [[u8; 8]; 6] =
     [*b"brake\0\0\0", *b"throttle", *b"steer\0\0\0", [0; 8], [128, 0, 0, 0, 0, 0, 0, 0], [255; 8]];
 
+/// The integers where the top bit of eight bytes turns.
+pub const ENDS: [i64; 4] = [i64::MAX, i64::MIN, -1, 0];
+
 /// A value of this type, often one at a border.
 pub fn value(random: &mut Random, value_type: u8) -> [u8; 8] {
     let integers = [0, 1, -1, 50, 49, 51, -50, i64::MAX, i64::MIN, i64::MAX - 1, 1 << 32, -(1 << 32)];

@@ -1,6 +1,6 @@
 //! Operands for generated sums: pairs whose result stands at a border, and pairs that make a given value.
 
-use crate::books::{finite, value};
+use crate::books::{finite, value, ENDS};
 use crate::policy::Value;
 use crate::random::Random;
 use crate::record::{DOUBLE, INTEGER};
@@ -225,6 +225,9 @@ pub fn some_value(random: &mut Random, value_type: u8) -> Value {
 pub fn to_compare(random: &mut Random, value_type: u8) -> [Value; 2] {
     if value_type == DOUBLE && random.chance(50) {
         return [(), ()].map(|_| Value::Double(random.pick(&[0.0, -0.0])));
+    }
+    if value_type == INTEGER && random.chance(20) {
+        return [(), ()].map(|_| Value::Integer(random.pick(&ENDS)));
     }
     let first = some_value(random, value_type);
     [first, near(random, first)]

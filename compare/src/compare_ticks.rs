@@ -20,14 +20,14 @@ use crate::requests;
 use crate::run::{hex, Difference};
 use crate::subject::{Rig, TickAnswer, PIECES};
 use crate::tally::{numbers, words, Tally, Wanted};
-use crate::truth::wanted_zeros;
+use crate::truth::wanted_borders;
 use crate::vouched;
 
 const DEALINGS: [&str; 8] =
     ["one step a tick", "a few", "a few, zeros among them", "any", "exactly all", "all but one", "the largest", "300"];
 
 pub fn wanted() -> Wanted {
-    let mut wanted = wanted_zeros();
+    let mut wanted = wanted_borders();
     wanted.extend(wanted_sums());
     wanted.extend(wanted_codes());
     wanted.extend(wanted_issuers());

@@ -6,7 +6,7 @@ use crate::record::{DOUBLE, INTEGER};
 use crate::status::{Lost, Status};
 use crate::sums::{exact, Operand, Operator, OPERATORS};
 use crate::tally::{numbers, pairs, triples, words, Wanted};
-use crate::truth::{holds, of_zeros, relation, truth_name, values_group, Evaluator, Truth, FUNCTIONS, NAMES, ZEROS};
+use crate::truth::{holds, of_zeros, truth_name, values_group, Evaluator, Truth, FUNCTIONS, NAMES, ZEROS};
 use crate::units::{between, border, nearest, sum, Size, Units};
 use std::cmp::Ordering;
 
@@ -21,7 +21,7 @@ impl Evaluator<'_> {
         let mut lost = Vec::new();
         let truth = match self.operands(name, operands, &mut lost) {
             [Ok(first), Ok(second)] => {
-                self.met(values_group(function), relation(first, second));
+                self.count_compared("values", values_group(function), first, second);
                 if holds(function, first, second) {
                     Truth::True
                 } else {

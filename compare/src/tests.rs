@@ -117,6 +117,23 @@ fn the_two_zeros_are_equal_as_doubles_alone() {
     assert!(!holds(3, DOUBLE, MINUS_ZERO, 1) && !holds(5, DOUBLE, 0, MINUS_ZERO + 1));
 }
 
+/// Integers by their eight bytes.
+const LEAST: u64 = 1 << 63;
+const MINUS_ONE: u64 = u64::MAX;
+const LARGEST: u64 = LEAST - 1;
+
+#[test]
+fn integers_have_a_sign() {
+    let rising = [LEAST, MINUS_ONE, 0, LARGEST];
+    for first in 0..4 {
+        for second in 0..4 {
+            let of_integers = [1, 2, 3, 4, 5].map(|function| holds(function, INTEGER, rising[first], rising[second]));
+            let of_places = [first == second, first > second, first >= second, first < second, first <= second];
+            assert_eq!(of_integers, of_places);
+        }
+    }
+}
+
 #[test]
 fn generated_books_are_sound() {
     for case in 0..3000 {
@@ -295,6 +312,8 @@ pub enum Plan {
     OrderOfObligations,
     ZerosApart,
     NamesAsDoubles,
+    MinusOneAsZero,
+    LeastAsLargest,
     TypeOfTheSecond,
     OperandsByWalking,
     SubtractExchanged,
@@ -576,19 +595,22 @@ impl Model {
     /// What a stand-in that compares values wrongly takes a book and a request for.
     fn misread(&self, book: &[u8], request: &[u8]) -> (Vec<u8>, Vec<u8>) {
         let (mut book, mut request) = (book.to_vec(), request.to_vec());
-        let misread = |lines: &mut [u8], type_at: usize, value_type, minus_zero: u64| {
+        let misread = |lines: &mut [u8], type_at: usize, value_type, value: u64, taken_for: u64| {
             for line in lines.chunks_exact_mut(LENGTH) {
-                if line[type_at] % MUST_BE_PRESENT == value_type && line[VALUE_AT] == MINUS_ZERO.to_be_bytes() {
-                    line[VALUE_AT].copy_from_slice(&minus_zero.to_be_bytes());
+                if line[type_at] % MUST_BE_PRESENT == value_type && line[VALUE_AT] == value.to_be_bytes() {
+                    line[VALUE_AT].copy_from_slice(&taken_for.to_be_bytes());
                 }
             }
         };
+        let mut misread_both = |value_type, value, taken_for| {
+            misread(&mut book, 5, value_type, value, taken_for);
+            misread(&mut request, 1, value_type, value, taken_for);
+        };
         match self.0 {
-            Plan::ZerosApart => misread(&mut request, 1, DOUBLE, MINUS_ZERO + 1),
-            Plan::NamesAsDoubles => {
-                misread(&mut book, 5, NAME, 0);
-                misread(&mut request, 1, NAME, 0);
-            }
+            Plan::ZerosApart => misread(&mut request, 1, DOUBLE, MINUS_ZERO, MINUS_ZERO + 1),
+            Plan::NamesAsDoubles => misread_both(NAME, MINUS_ZERO, 0),
+            Plan::MinusOneAsZero => misread_both(INTEGER, MINUS_ONE, 0),
+            Plan::LeastAsLargest => misread_both(INTEGER, LEAST, LARGEST),
             Plan::ValuesExchanged => book.chunks_exact_mut(LENGTH).for_each(exchange_values),
             _ => {}
         }
@@ -793,6 +815,9 @@ fn judge_comparison() {
     }
 }
 
+/// The errors that tempt where eight bytes are read as a value.
+const VALUES: [Plan; 4] = [Plan::ZerosApart, Plan::NamesAsDoubles, Plan::MinusOneAsZero, Plan::LeastAsLargest];
+
 /// The errors that tempt in sums.
 const SUMS: [Plan; 10] = [
     Plan::SubtractExchanged,
@@ -835,8 +860,8 @@ const ISSUERS: [Plan; 10] = [
 #[test]
 fn decide_comparison() {
     assert!(decide_agrees(Plan::Right, 50_000));
-    let planted = [Plan::OddByteKept, Plan::OrderOfObligations, Plan::ZerosApart, Plan::NamesAsDoubles];
-    for plan in planted.into_iter().chain(SUMS).chain(CODES).chain(ISSUERS).chain([Plan::DenyWithCode]) {
+    let planted = [Plan::OddByteKept, Plan::OrderOfObligations, Plan::DenyWithCode];
+    for plan in planted.into_iter().chain(VALUES).chain(SUMS).chain(CODES).chain(ISSUERS) {
         assert!(!decide_agrees(plan, 10_000), "{plan:?}");
     }
 }
@@ -846,8 +871,8 @@ fn ticks_comparison() {
     assert!(ticks_agree(Plan::Right, 20_000));
     let planted =
         [Plan::OutputTouchedWhileRunning, Plan::ExtraStep, Plan::EndNotKept, Plan::AnswerTooEarly, Plan::BudgetNotUsed];
-    let of_values = [Plan::ZerosApart, Plan::NamesAsDoubles, Plan::OperandLostBetweenTicks];
-    for plan in planted.into_iter().chain(of_values).chain(SUMS).chain(CODES).chain(ISSUERS) {
+    let lost = [Plan::OperandLostBetweenTicks];
+    for plan in planted.into_iter().chain(lost).chain(VALUES).chain(SUMS).chain(CODES).chain(ISSUERS) {
         assert!(!ticks_agree(plan, 5_000), "{plan:?}");
     }
 }

@@ -6,7 +6,7 @@ use crate::policy::*;
 use crate::record::ANY;
 use crate::status::{self, Lost, Outcome, Pick, Status};
 use crate::sums::{self, Apply};
-use crate::tally::{pairs, words, Item, Tally, Wanted};
+use crate::tally::{pairs, triples, words, Item, Tally, Wanted};
 
 #[derive(Clone, Copy, PartialEq, Eq, Debug)]
 pub enum Truth {
@@ -99,7 +99,7 @@ impl Evaluator<'_> {
             return Truth::Unknown(Status::Missing);
         }
         for (index, &value) in bag.iter().enumerate() {
-            self.met(match_group(test.function), relation(test.literal, value));
+            self.count_compared("match", match_group(test.function), test.literal, value);
             if holds(test.function, test.literal, value) {
                 self.met("match", if index == 0 { "True by the first value" } else { "True by a later value" });
                 return Truth::True;
@@ -113,7 +113,7 @@ impl Evaluator<'_> {
         let bag = self.bag("comparison", test.asked);
         let presence = if test.must_be_present { "must be present" } else { "may be absent" };
         if let [value] = bag[..] {
-            self.met(comparison_group(test.function), relation(test.literal, value));
+            self.count_compared("comparison", comparison_group(test.function), test.literal, value);
             let truth = if holds(test.function, test.literal, value) { Truth::True } else { Truth::False };
             self.met("comparison", (truth_name(truth), presence));
             return truth;
@@ -188,6 +188,14 @@ impl Evaluator<'_> {
         so_far
     }
 
+    /// Counts how the values stand to each other; of two integers at the ends also which they are, by what compares them.
+    pub fn count_compared(&mut self, by: &'static str, group: &'static str, first: Value, second: Value) {
+        self.met(group, relation(first, second));
+        if let (Some(first), Some(second)) = (end_name(first), end_name(second)) {
+            self.met(AT_THE_ENDS, (by, first, second));
+        }
+    }
+
     /// Counts an Indeterminate section with a No-match before it or after it, and notes the later ones that are lost.
     fn count_unknown_target(&mut self, before: Truth, sections: &[Section], lost: &mut Vec<Lost>) {
         if self.asides > 0 {
@@ -238,7 +246,7 @@ fn greater(first: Value, second: Value) -> bool {
 // Names for the tables of counts
 
 /// How a literal or a first value stands to another of its type.
-pub fn relation(first: Value, second: Value) -> (&'static str, &'static str) {
+fn relation(first: Value, second: Value) -> (&'static str, &'static str) {
     let order = if first == second {
         "same"
     } else if greater(first, second) {
@@ -253,6 +261,21 @@ pub fn relation(first: Value, second: Value) -> (&'static str, &'static str) {
             ("double", of_zeros(first, second))
         }
         _ => ("double", order),
+    }
+}
+
+const AT_THE_ENDS: &str = "integers at the ends";
+
+/// The integers where the top bit of eight bytes turns: the largest and the least, -1 and 0.
+const ENDS: [&str; 4] = ["2^63 - 1", "-2^63", "-1", "0"];
+
+fn end_name(value: Value) -> Option<&'static str> {
+    match value {
+        Value::Integer(i64::MAX) => Some(ENDS[0]),
+        Value::Integer(i64::MIN) => Some(ENDS[1]),
+        Value::Integer(-1) => Some(ENDS[2]),
+        Value::Integer(0) => Some(ENDS[3]),
+        _ => None,
     }
 }
 
@@ -355,13 +378,15 @@ pub fn wanted_truths() -> Wanted {
             wanted.push((group, pairs(&["name"], &NAMES)));
         }
     }
-    wanted.extend(wanted_zeros());
+    wanted.extend(wanted_borders());
     wanted
 }
 
-/// Both zeros, as literal and as request value, in every function.
-pub fn wanted_zeros() -> Wanted {
-    groups().map(|(_, group)| (group, pairs(&["double"], &ZEROS))).collect()
+/// Both zeros, as literal and as request value, in every function; and each end of integers with each.
+pub fn wanted_borders() -> Wanted {
+    let mut wanted: Wanted = groups().map(|(_, group)| (group, pairs(&["double"], &ZEROS))).collect();
+    wanted.push((AT_THE_ENDS, triples(&["match", "comparison", "values"], &ENDS, &ENDS)));
+    wanted
 }
 
 pub const FUNCTIONS: [Function; 5] =
