@@ -270,13 +270,14 @@ pub const ENDS: [i64; 4] = [i64::MAX, i64::MIN, -1, 0];
 
 /// A value of this type, often one at a border.
 pub fn value(random: &mut Random, value_type: u8) -> [u8; 8] {
-    let integers = [0, 1, -1, 50, 49, 51, -50, i64::MAX, i64::MIN, i64::MAX - 1, 1 << 32, -(1 << 32)];
+    let integers = [1, 50, 49, 51, -50, i64::MAX - 1, 1 << 32, -(1 << 32)];
     let doubles = [1.0, -1.0, 0.1, 5e-324, -5e-324, f64::MIN_POSITIVE, 2.5e-310, f64::MAX, f64::MIN, 1e300, 4.5, -4.5];
     match value_type {
         DOUBLE if random.chance(40) => random.pick(&[0.0f64, -0.0]).to_be_bytes(),
         DOUBLE if random.chance(70) => random.pick(&doubles).to_be_bytes(),
         DOUBLE => finite(random.next()).to_be_bytes(),
-        INTEGER if random.chance(80) => random.pick(&integers).to_be_bytes(),
+        INTEGER if random.chance(40) => random.pick(&ENDS).to_be_bytes(),
+        INTEGER if random.chance(70) => random.pick(&integers).to_be_bytes(),
         NAME if random.chance(80) => random.pick(&NAMES),
         _ => random.next().to_be_bytes(),
     }

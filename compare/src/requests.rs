@@ -72,7 +72,7 @@ fn near(random: &mut Random, aim: Aim) -> Entry {
         0..=3 => entry.value(),
         4..=5 => beside(value_type, bits, 1),
         6 => beside(value_type, bits, u64::MAX),
-        8..=9 if value_type == INTEGER => random.pick(&ENDS).to_be_bytes(),
+        8..=9 if value_type == INTEGER && random.chance(75) => random.pick(&ENDS).to_be_bytes(),
         7..=8 => (bits ^ (1 << 63)).to_be_bytes(), // the other zero of a zero
         _ => value(random, value_type),
     };
