@@ -5,7 +5,7 @@ ghost use Rattle.algorithm.specs.Tally.{noting, fresh, tallied, verdict_so_far};
 use crate::Acc;
 use meaning::{Algorithm, Cause, Effect, Verdict};
 
-#[derive(Drop)]
+#[derive(Clone, Copy)]
 pub struct Tally {
     pub acc: Acc,
     pub cause: Cause,

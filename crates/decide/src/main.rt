@@ -1,4 +1,6 @@
 // Reads BOOK.HEX and a request, and prints the line of the decision or of the refusal.
+#![tactic(auto)]
+
 ghost use Rattle.std.specs.Prelude.{◌≡◌, ◌≤◌, ◌*◌, length, take};
 ghost use Rattle.record.specs.Bytes.{size, most_records, most_entries};
 ghost use Rattle.line.specs.Line.{longest};

@@ -1,4 +1,6 @@
 // Deciding: one pass over the records of a book, each decided at most once.
+#![tactic(auto)]
+
 ghost use Rattle.std.specs.Prelude.{◌≡◌, false, ◌+◌, ◌*◌, ◌-◌, ◌<◌, ◌≤◌, length};
 ghost use Rattle.record.specs.Bytes.{size};
 ghost use Rattle.record.specs.Forest.{forest, height};
@@ -16,14 +18,14 @@ use sums::Status;
 mod places;
 
 // The verdict and how many obligations were put, or a refusal.
-#[derive(Drop)]
+#[derive(Clone, Copy)]
 pub enum Outcome {
     Decided(Verdict, usize),
     Refused(Refusal),
 }
 
 // The one child whose target matches, by place and span, for only-one; where that cannot be one, why.
-#[derive(Drop)]
+#[derive(Clone, Copy)]
 enum Pick {
     Nobody,
     One(usize, usize),
@@ -31,7 +33,7 @@ enum Pick {
 }
 
 // A verdict, and how many places its obligations end at.
-#[derive(Drop)]
+#[derive(Clone, Copy)]
 struct Ruling {
     verdict: Verdict,
     count: usize,

@@ -1,1 +1,2 @@
 // Definitions and theorems only: the double nearest an exact sum.
+#![tactic(auto)]

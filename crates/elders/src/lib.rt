@@ -1,4 +1,6 @@
 // The table of elders: for each record the one before it in its row of siblings, so that a row can be walked from its last record to its first.
+#![tactic(auto)]
+
 ghost use Rattle.std.specs.Prelude.{◌≡◌, ◌*◌, ◌-◌, ◌<◌, ◌≤◌, length, get_or};
 ghost use Rattle.record.specs.Bytes.{size, most_records};
 ghost use Rattle.record.specs.Forest.{forest};

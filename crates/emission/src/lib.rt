@@ -1,4 +1,6 @@
 // The numbers that entries are made of, and writing them right before the place where the code behind them starts.
+#![tactic(auto)]
+
 pub mod conditions;
 pub mod dues;
 pub mod targets;

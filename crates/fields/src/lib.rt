@@ -1,4 +1,6 @@
 // The field rules of records and of a request's entries.
+#![tactic(auto)]
+
 ghost use Rattle.std.specs.Prelude.{◌≡◌, ◌+◌, ◌*◌, ◌-◌, ◌≤◌, eqb, length};
 ghost use Rattle.record.specs.Choose.{if, among};
 ghost use Rattle.record.specs.Bytes.{size};
@@ -9,7 +11,7 @@ ghost use Rattle.fields.specs.declared.Kind.TheVariants.{Comparison, Weighing, N
 
 use record::{SIZE, big2, big4, big8, byte, span};
 
-#[derive(Drop)]
+#[derive(Clone, Copy)]
 pub enum Kind {
     PolicySet,
     Policy,
@@ -28,7 +30,7 @@ pub enum Kind {
     Nothing,
 }
 
-#[derive(Drop)]
+#[derive(Clone, Copy)]
 pub enum Sort {
     Integer,
     Name,
@@ -337,7 +339,7 @@ fn obligation(k: usize) -> usize
 }
 
 // The records before the first that breaks a field rule, and how many of them are obligations.
-#[derive(Drop)]
+#[derive(Clone, Copy)]
 pub struct Kept {
     pub records: usize,
     pub obligations: usize,

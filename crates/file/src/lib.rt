@@ -1,4 +1,6 @@
 // The files of the programs, in the current folder: BOOK.HEX, which they read the book's text from, and MENDED.HEX, which `salvage` writes.
+#![tactic(auto)]
+
 ghost use Rattle.io.specs.Counts.{IsPrefixLen};
 
 // How many bytes of the file came: none if it will not open.

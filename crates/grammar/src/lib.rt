@@ -1,4 +1,6 @@
 // Whether a book is sound, in one pass: each record is looked at once, with what may stand below it. A book that is not is judged line by line.
+#![tactic(auto)]
+
 mod kept;
 
 ghost use Rattle.std.specs.Prelude.{◌≡◌, true, ℕ, ◌+◌, ◌*◌, ◌-◌, ◌<◌, ◌≤◌, length};

@@ -1,4 +1,6 @@
 // The call for a C host.
+#![tactic(auto)]
+
 ghost use Rattle.std.specs.Prelude.{◌≡◌, ◌++◌, ◌*◌, ◌-◌, ◌/◌, ◌≤◌, min, length, take, drop, replicate};
 ghost use Rattle.record.specs.Bytes.{most_records};
 ghost use Rattle.decider.specs.declared.Outcome.TheVariants.{Decided};

@@ -1,4 +1,6 @@
 // Judging record bytes: a book's, and a request's.
+#![tactic(auto)]
+
 ghost use Rattle.std.specs.Prelude.{◌≡◌, ◌*◌, ◌<◌, length};
 ghost use Rattle.record.specs.Bytes.{size};
 ghost use Rattle.judge.specs.Judge.{judge_records, judge_of};
@@ -6,13 +8,13 @@ ghost use Rattle.judge.specs.Request.{judge_request_of};
 
 use record::Refusal;
 
-#[derive(Drop)]
+#[derive(Clone, Copy)]
 pub enum Judged {
     Accepted { records: usize, obligations: usize },
     Refused(Refusal),
 }
 
-#[derive(Drop)]
+#[derive(Clone, Copy)]
 pub enum JudgedRequest {
     Accepted { entries: usize },
     Refused(Refusal),

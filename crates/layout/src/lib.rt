@@ -1,4 +1,6 @@
 // The layout of a programme's state in numbers: small words by number and back; levels, frames and the first number as they stand in 64 bits.
+#![tactic(auto)]
+
 ghost use Rattle.std.specs.Prelude.{◌≡◌, ◌<◌, ◌≤◌};
 ghost use Rattle.layout.specs.Layout.{bit_of, truth_code, truth_by, cause_code, cause_by, decision_code, decision_by, verdict_code, verdict_by, effect_by, op_code, op_by, algorithm_code, algorithm_by, operator_by, rank_code, rank_by, acc_code, acc_by, level_of, level_word, frame_of, frame_word, found_by, found_code, unpack_of, pack_of};
 ghost use Rattle.layout.specs.Ranges.{Held};
@@ -9,7 +11,7 @@ use meaning::{Algorithm, Cause, Decision, Effect, Truth, Verdict};
 use sums::{Operator, Status};
 
 // What a condition that is open does with its parts.
-#[derive(Drop)]
+#[derive(Clone, Copy)]
 pub enum Op {
     All,
     Any,
@@ -17,14 +19,14 @@ pub enum Op {
 }
 
 // A condition that is open: what it does, and the value of its parts so far.
-#[derive(Drop)]
+#[derive(Clone, Copy)]
 pub struct Level {
     pub op: Op,
     pub val: Truth,
 }
 
 // A policy or set that is open: its algorithm, what that keeps of its children, and how many obligations of each effect stood when it was opened.
-#[derive(Drop)]
+#[derive(Clone, Copy)]
 pub struct Frame {
     pub alg: Algorithm,
     pub tally: Tally,
@@ -33,7 +35,7 @@ pub struct Frame {
 }
 
 // What was found so far: the register, and the truths of a conjunction, a section and a target.
-#[derive(Drop)]
+#[derive(Clone, Copy)]
 pub struct Found {
     pub reg: Verdict,
     pub ands: Truth,
@@ -42,7 +44,7 @@ pub struct Found {
 }
 
 // The first number, taken apart.
-#[derive(Drop)]
+#[derive(Clone, Copy)]
 pub struct Head {
     pub at: u64,
     pub depth: u64,
@@ -57,7 +59,7 @@ pub struct Head {
 // A state has so many obligation places.
 pub const PLACES: usize = 1000;
 
-#[derive(Drop)]
+#[derive(Clone, Copy)]
 pub struct State {
     pub head: u64,
     pub frames: [u64; 17],

@@ -1,4 +1,6 @@
 // Places that a caller lends for obligations, copied and cleared: deciding, ticks and the calls from C do this.
+#![tactic(auto)]
+
 ghost use Rattle.std.specs.Prelude.{◌≡◌, ◌++◌, ◌-◌, ◌≤◌, length, take, drop, replicate};
 
 // Copies the first n places of one row to the first of another.

@@ -1,4 +1,6 @@
 // What the programs print: one line, in capital hexadecimal digits.
+#![tactic(auto)]
+
 ghost use Rattle.std.specs.Prelude.{◌≡◌, [], ◌∷◌, ◌++◌, ◌+◌, ◌*◌, ◌≤◌, length, take};
 ghost use Rattle.record.specs.Stored.{stored};
 ghost use Rattle.text.specs.Text.{lf};

@@ -1,4 +1,6 @@
 // The call of salvage for a C host.
+#![tactic(auto)]
+
 ghost use Rattle.std.specs.Prelude.{◌≡◌, length};
 ghost use Rattle.mending.specs.Salvaged.{answer_of, mended_out, replaced_out};
 ghost use Rattle.mending.specs.Caller.{Within};

@@ -1,4 +1,6 @@
 // The mending of a half-copied book: each child of line 1 that has a bad line inside gives place to a policy that denies.
+#![tactic(auto)]
+
 ghost use Rattle.std.specs.Prelude.{◌≡◌, ◌++◌, ◌∷◌, [], ◌+◌, ◌*◌, ◌-◌, ◌/◌, ◌%◌, ◌<◌, ◌≤◌, length};
 ghost use Rattle.record.specs.Bytes.{size, most_records};
 ghost use Rattle.record.specs.Stored.{stored};
@@ -11,7 +13,7 @@ ghost use Rattle.mending.specs.Salvaged.{bytes_of_all, answer_by, answer_of, lea
 use record::Refusal;
 
 // What salvage answers: a book mended, with so many records and replacements, or a refusal.
-#[derive(Drop)]
+#[derive(Clone, Copy)]
 pub enum Salvaged {
     Mended { records: usize, replacements: usize },
     Refused(Refusal),
@@ -69,7 +71,7 @@ fn put_denial(out: &mut [u8], k: usize)
 }
 
 // What mending stored: so many records, line 1 counted, and so many replacements.
-#[derive(Drop)]
+#[derive(Clone, Copy)]
 pub struct Stored {
     pub records: usize,
     pub replacements: usize,

@@ -1,4 +1,6 @@
 // What a step does, put together: where it goes on, and what becomes of the stacks and the obligations.
+#![tactic(auto)]
+
 pub mod conditions;
 pub mod policies;
 pub mod targets;
@@ -11,14 +13,14 @@ use layout::{Found, Head};
 use meaning::{Truth, Verdict};
 
 // How many entries a step leaves out, and what is found then.
-#[derive(Drop)]
+#[derive(Clone, Copy)]
 pub struct Next {
     pub jump: u64,
     pub found: Found,
 }
 
 // What becomes of a stack: nothing; one more on top; another on top; another below the top; the top goes and another is below it.
-#[derive(Drop)]
+#[derive(Clone, Copy)]
 pub enum Change {
     Keep,
     Push(u64),
@@ -28,7 +30,7 @@ pub enum Change {
 }
 
 // What becomes of the obligations: one is put on a stack, stacks fall back, the cut is set, or some of Deny's are brought down.
-#[derive(Drop)]
+#[derive(Clone, Copy)]
 pub enum Placing {
     Rest,
     AddPermit(u64),
@@ -41,7 +43,7 @@ pub enum Placing {
 }
 
 // What a step does.
-#[derive(Drop)]
+#[derive(Clone, Copy)]
 pub struct Move {
     pub next: Next,
     pub over: bool,

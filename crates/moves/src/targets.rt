@@ -8,7 +8,7 @@ use meaning::{Truth, Verdict};
 
 // How a match stands in its target: whether it is the last of its conjunction, that the last of its section, that the last of the target; and
 // the ways to the next conjunction, to the next section, and out of the target.
-#[derive(Drop)]
+#[derive(Clone, Copy)]
 pub struct Stands {
     pub m: bool,
     pub c: bool,

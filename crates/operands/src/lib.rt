@@ -1,4 +1,6 @@
 // The operands of a record: whether it has two values for children, of which type, and whether those are what it wants.
+#![tactic(auto)]
+
 ghost use Rattle.std.specs.Prelude.{◌≡◌, ◌+◌, ◌*◌, ◌-◌, ◌<◌, ◌≤◌, max, length};
 ghost use Rattle.record.specs.Choose.{if, both};
 ghost use Rattle.record.specs.Bytes.{size, byte_of};

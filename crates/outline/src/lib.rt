@@ -1,5 +1,7 @@
 // Lines for a person to read. Each function puts something after the first `at` bytes of a lent line, and answers how many bytes of it are then said; what
 // finds no room is cut.
+#![tactic(auto)]
+
 ghost use Rattle.std.specs.Prelude.{◌≡◌, [], ◌∷◌, ◌%◌, replicate};
 ghost use Rattle.io.specs.Digits.{hex_digit_ascii};
 ghost use Rattle.outline.specs.Outline.{Says, last_digit, digits_of, decimal_of, integer_of, plain, escaped, name_of, sign_of, hexes_of, point_of, written_of, power_of, lead_of, hex_of, halved_of, whole_of, is_whole, digits_too, double_of};

@@ -1,4 +1,6 @@
 // What the pieces of a comparison of two values do. On the levels a value is its eight bytes.
+#![tactic(auto)]
+
 ghost use Rattle.std.specs.Prelude.{◌≡◌};
 ghost use Rattle.value.specs.Value.{value_of, test_of};
 ghost use Rattle.sums.specs.Sums.{in_bytes};

@@ -1,4 +1,6 @@
 // The place rules, line by line: where a record may stand.
+#![tactic(auto)]
+
 ghost use Rattle.std.specs.Prelude.{◌≡◌, ◌+◌, ◌*◌, ◌-◌, ◌<◌, ◌≤◌, length};
 ghost use Rattle.record.specs.Choose.{if, both, among};
 ghost use Rattle.record.specs.Bytes.{size};
@@ -225,7 +227,7 @@ fn child_rule(end: usize, top: usize, depth: usize, ok: bool) -> u8
 }
 
 // A record that breaks a place rule, and which.
-#[derive(Drop)]
+#[derive(Clone, Copy)]
 pub struct Broken {
     pub at: usize,
     pub rule: u8,

@@ -1,4 +1,6 @@
 // The calls of the other crates for the comparisons to link. Each answer is one number.
+#![tactic(auto)]
+
 ghost use Rattle.std.specs.Prelude.{◌≡◌, ◌<◌, ◌^◌, length};
 ghost use Rattle.text.specs.Text.{book, request, read_of, write_of, byte_at, text_at, output_after};
 ghost use Rattle.text.specs.Wrong.{zeroed};

@@ -1,4 +1,6 @@
 // A step of the programme.
+#![tactic(auto)]
+
 mod entries;
 
 ghost use Rattle.std.specs.Prelude.{◌≡◌, ◌≤◌, length};
@@ -11,14 +13,14 @@ use layout::{Head, PLACES};
 use moves::Move;
 
 // What an entry is found to do, and how many further entries it has; or it is outside its layout.
-#[derive(Drop)]
+#[derive(Clone, Copy)]
 pub enum Met {
     Outside,
     Does(Move, u64),
 }
 
 // Whether the step could be taken, and the first number after it, taken apart.
-#[derive(Drop)]
+#[derive(Clone, Copy)]
 pub struct Went {
     pub ok: bool,
     pub head: Head,

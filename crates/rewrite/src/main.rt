@@ -1,4 +1,6 @@
 // Reads BOOK.HEX and prints it again in capitals and with 40 digits a line, or the line of its refusal.
+#![tactic(auto)]
+
 ghost use Rattle.std.specs.Prelude.{◌≡◌, ◌≤◌, ◌*◌, length, take};
 ghost use Rattle.record.specs.Bytes.{size, most_records};
 ghost use Rattle.text.specs.Text.{line_length};

@@ -1,4 +1,6 @@
 // The calls of the rig's loop. They take apart what is lent, call the functions of other crates, and put together what those give.
+#![tactic(auto)]
+
 ghost use Rattle.std.specs.Prelude.{◌≡◌, ◌∷◌, ◌++◌, ◌≤◌, length};
 ghost use Rattle.translator.specs.Translate.{translate_of, leaves};
 ghost use Rattle.rig.specs.Rig.{no_state, state_in, numbers_of, over, call, fresh_call, running_number, finished_number, tick_in, tick_call, translated_number};

@@ -1,4 +1,6 @@
 // Targets, conditions and rules, decided on the records themselves. `s` is a record's span; `count` records from `from` on are a record's children.
+#![tactic(auto)]
+
 ghost use Rattle.std.specs.Prelude.{◌≡◌, ◌+◌, ◌*◌, ◌-◌, ◌^◌, ◌<◌, ◌≤◌, eqb, length};
 ghost use Rattle.record.specs.Bytes.{size};
 ghost use Rattle.record.specs.Choose.{if};

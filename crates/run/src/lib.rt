@@ -1,4 +1,5 @@
 // Runs and ticks of a programme.
+#![tactic(auto)]
 
 // The types stand apart, since a tick is both what is done and what it gives.
 pub mod kinds {
@@ -7,7 +8,7 @@ pub mod kinds {
     use record::Refusal;
 
     // The answer says running, or finished, with which decision and code and how many obligations, or why the tick was refused.
-    #[derive(Drop)]
+    #[derive(Clone, Copy)]
     pub enum Answer {
         Running,
         Finished(Verdict, u64),
@@ -15,7 +16,7 @@ pub mod kinds {
     }
 
     // Whether each step that the run would take met entries in their layout, the state that it led to, and the steps taken.
-    #[derive(Drop)]
+    #[derive(Clone, Copy)]
     pub struct Ran {
         pub ok: bool,
         pub state: State,
@@ -23,7 +24,7 @@ pub mod kinds {
     }
 
     // The state after a tick, the steps that it took, and its answer.
-    #[derive(Drop)]
+    #[derive(Clone, Copy)]
     pub struct Tick {
         pub state: State,
         pub steps: u64,
@@ -64,7 +65,7 @@ pub fn fresh() -> State
 }
 
 // How a run ended, apart from the arrays: whether each step could be taken, the first number, and the steps taken.
-#[derive(Drop)]
+#[derive(Clone, Copy)]
 struct Ended {
     ok: bool,
     head: u64,

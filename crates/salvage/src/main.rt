@@ -1,4 +1,6 @@
 // Reads BOOK.HEX, writes it mended into MENDED.HEX, and prints a line a replacement; or prints the line of its refusal, and writes no file.
+#![tactic(auto)]
+
 ghost use Rattle.std.specs.Prelude.{◌≡◌, ◌*◌, ◌/◌, ◌≤◌, length, take};
 ghost use Rattle.record.specs.Bytes.{size, most_records};
 ghost use Rattle.record.specs.Stored.{stored};
@@ -20,7 +22,7 @@ const LINE: usize = 9;
 const PRINTED: usize = LINE * record::MOST_RECORDS / 2;
 
 // How many bytes the file has, and how many are printed.
-#[derive(Drop)]
+#[derive(Clone, Copy)]
 struct Lengths {
     file: usize,
     printed: usize,

@@ -12,7 +12,7 @@ const WIDTH: usize = 256;
 const MOST: usize = 250;
 
 // Its bytes, and how many of them are said; what finds no room is cut.
-#[derive(Drop)]
+#[derive(Clone, Copy)]
 pub struct Line {
     pub bytes: [u8; WIDTH],
     pub said: usize,

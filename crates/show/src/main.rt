@@ -1,5 +1,7 @@
 // Prints BOOK.HEX as an outline that a person can read: one line a record, indented by its depth. A book that is refused is printed as far as it is
 // sound, and the refused line is marked, with the rule that it breaks.
+#![tactic(auto)]
+
 ghost use Rattle.std.specs.Prelude.{◌≡◌, ◌*◌, ◌≤◌, length};
 ghost use Rattle.record.specs.Bytes.{size};
 ghost use Rattle.show.specs.Outline.{lines_before};

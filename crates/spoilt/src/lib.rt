@@ -1,4 +1,6 @@
 // The bad lines of a half-copied book: records that are read as subtrees, by their spans, whatever these are.
+#![tactic(auto)]
+
 ghost use Rattle.std.specs.Prelude.{◌≡◌, ◌+◌, ◌*◌, ◌-◌, ◌<◌, ◌≤◌, length};
 ghost use Rattle.record.specs.Bytes.{size, byte_of};
 ghost use Rattle.record.specs.Forest.{span_in};

@@ -1,4 +1,6 @@
 // How a step is carried out, on the stacks and on the row of obligation places.
+#![tactic(auto)]
+
 ghost use Rattle.std.specs.Prelude.{◌≡◌, ◌+◌, ◌-◌, ◌<◌, ◌≤◌, min, length};
 ghost use Rattle.stacks.specs.Machine.{height_after, stack_after, cut_after, permits_after, denies_after, copies, places_after};
 ghost use Rattle.layout.specs.Ranges.{Ranged};
@@ -61,7 +63,7 @@ fn alter(stack: &mut [u64], top: usize, c: Change) -> usize
 }
 
 // How many obligations stand on each stack, and where Deny's begins.
-#[derive(Drop)]
+#[derive(Clone, Copy)]
 pub struct Heights {
     pub permits: u64,
     pub denies: u64,

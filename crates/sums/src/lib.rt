@@ -1,4 +1,6 @@
 // Operators on values: integer add, subtract, multiply, divide and remainder, and double add, that say where there is no result.
+#![tactic(auto)]
+
 ghost use Rattle.std.specs.Prelude.{◌≡◌, T, nat_abs};
 ghost use Rattle.value.specs.Value.{value_of};
 ghost use Rattle.value.specs.Units.{with_sign};
@@ -7,7 +9,7 @@ ghost use Rattle.sums.specs.Sums.{fitted, differ, add_of, sub_of, mul_of, div_of
 
 use value::Value;
 
-#[derive(Drop)]
+#[derive(Clone, Copy)]
 pub enum Operator {
     Add,
     Subtract,
@@ -18,14 +20,14 @@ pub enum Operator {
 }
 
 // The standard's status codes: why there is no answer. A missing attribute; a processing error, as a sum that fails.
-#[derive(Drop)]
+#[derive(Clone, Copy)]
 pub enum Status {
     Missing,
     Processing,
 }
 
 // A value, or why there is none.
-#[derive(Drop)]
+#[derive(Clone, Copy)]
 pub enum Worth {
     Is(Value),
     Lost(Status),
@@ -223,7 +225,7 @@ pub fn bytes_of(v: Value) -> u64
 }
 
 // A worth as a word: its eight bytes.
-#[derive(Drop)]
+#[derive(Clone, Copy)]
 pub enum Word {
     Holds(u64),
     Nothing(Status),

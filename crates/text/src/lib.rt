@@ -1,4 +1,6 @@
 // The text of a book or a request, read and written: a record is a line of hexadecimal digits and LF.
+#![tactic(auto)]
+
 ghost use Rattle.std.specs.Prelude.{◌≡◌, ◌++◌, ◌<◌, ◌≤◌, ◌+◌, ◌-◌, ◌*◌, ◌/◌, min, length, get_or, take, drop};
 ghost use Rattle.record.specs.Bytes.{size};
 ghost use Rattle.record.specs.Below.{all_below};
@@ -25,14 +27,14 @@ pub const BOOK_TEXT: usize = record::MOST_RECORDS * LINE + 1;
 pub const REQUEST_TEXT: usize = record::MOST_ENTRIES * LINE + 1;
 
 // What reading and writing answer: so many places of the output are filled, or nothing is.
-#[derive(Drop)]
+#[derive(Clone, Copy)]
 pub enum Filled {
     Places(usize),
     Refused(Refusal),
 }
 
 // What a book and a request differ in: how many records there may be at most, whether there may be none, and the part that a refusal names.
-#[derive(Drop)]
+#[derive(Clone, Copy)]
 pub struct Kind {
     pub most: usize,
     pub empty: bool,
@@ -62,7 +64,7 @@ fn missing(kind: Kind, n: usize) -> bool
 }
 
 // What a byte says as a hexadecimal digit.
-#[derive(Drop)]
+#[derive(Clone, Copy)]
 pub enum Nibble {
     Value(u8),
     Bad,
@@ -213,7 +215,7 @@ pub fn zero_wrong(text: &mut [u8])
 }
 
 // How the lines of a text stand: all are good, or this is the first that is not, or there are too many.
-#[derive(Drop)]
+#[derive(Clone, Copy)]
 pub enum Judged {
     Lines(usize),
     Wrong(usize),

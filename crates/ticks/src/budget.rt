@@ -2,7 +2,7 @@
 ghost use Rattle.std.specs.Prelude.{◌≡◌};
 ghost use Rattle.ticks.specs.Budget.{budget_of};
 
-#[derive(Drop)]
+#[derive(Clone, Copy)]
 pub enum Budget {
     Steps(u64),
     Wrong,

@@ -1,5 +1,7 @@
 // Translates BOOK.HEX, runs the programme for a request tick by tick, and prints a line a tick. The arguments are budgets, one a tick; the last is
 // repeated until the run is finished, unless it is 0. Without arguments a tick has 300 steps.
+#![tactic(auto)]
+
 ghost use Rattle.std.specs.Prelude.{◌≡◌, ◌<◌, ◌≤◌, length};
 ghost use Rattle.record.specs.Bytes.{most_records};
 ghost use Rattle.ticks.specs.Lines.{is_running, after_of};
@@ -71,7 +73,7 @@ fn is_running(answer: Answer) -> bool
 }
 
 // What is left after a tick.
-#[derive(Drop)]
+#[derive(Clone, Copy)]
 struct After {
     state: State,
     running: bool,

@@ -1,15 +1,17 @@
 // Attribute values, and the functions 1 to 5 that compare them.
+#![tactic(auto)]
+
 ghost use Rattle.std.specs.Prelude.{◌≡◌};
 ghost use Rattle.value.specs.Value.{signed64, finite_of, value_of, greater_of, equal_of, at_least_of, function_of, test_of};
 
-#[derive(Drop)]
+#[derive(Clone, Copy)]
 pub enum Value {
     Integer(i64),
     Name(u64),
     Double(f64),
 }
 
-#[derive(Drop)]
+#[derive(Clone, Copy)]
 pub enum Function {
     Equal,
     Greater,

@@ -1,4 +1,6 @@
 // Values in conditions, found on the records themselves. A value is its eight bytes; record i, with the records below it, ends at `stop`.
+#![tactic(auto)]
+
 ghost use Rattle.std.specs.Prelude.{◌≡◌, List, ◌+◌, ◌*◌, ◌-◌, ◌<◌, ◌≤◌, length};
 ghost use Rattle.record.specs.Bytes.{size};
 ghost use Rattle.record.specs.Forest.{forest};

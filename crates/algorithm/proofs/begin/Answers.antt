@@ -1,0 +1,17 @@
+use borrow.Author.Rules.{rules}
+use Rattle.algorithm.proofs.begin.Goals as goal
+
+pub returns-in-RulesDeny : goal.returns-in-RulesDeny
+returns-in-RulesDeny c = rw c.in-RulesDeny.is
+
+pub returns-in-RulesPermit : goal.returns-in-RulesPermit
+returns-in-RulesPermit c = rw c.in-RulesPermit.is
+
+pub returns-in-First : goal.returns-in-First
+returns-in-First c = rw c.in-First.is
+
+pub returns-in-PoliciesDeny : goal.returns-in-PoliciesDeny
+returns-in-PoliciesDeny c = rw c.in-PoliciesDeny.is
+
+pub returns-in-PoliciesPermit : goal.returns-in-PoliciesPermit
+returns-in-PoliciesPermit c = rw c.in-PoliciesPermit.is

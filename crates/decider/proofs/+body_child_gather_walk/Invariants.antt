@@ -1,0 +1,28 @@
+use borrow.Author.Tests.{not-true, not-false}
+use Rattle.meaning.specs.Reading.{bags_of}
+use Rattle.record.specs.Forest.{forest, height}
+use Rattle.decider.proofs.Rooms.{deep_is, nest_kids, nest_rest, rooms}
+use Rattle.decider.proofs.Laws.{child_no, child_lost, child_yes, body_own, gather_rules, gather_walk, gather_nobody, gather_many, gather_one, picked_one, Sofar, walk_start, walk_skip, walk_turn, walk_stop, walk_end}
+use native.Mathlib.Omega.{arith}
+use borrow.Author.Rules.{rules}
+use Prim.Native.Nat.{ℕ, ◌+◌, ◌-◌, ◌*◌, ◌≤◌, ◌<◌}
+use mathlib.Core.Path.{◌≡◌, refl, sym, ◌∙◌}
+use Rattle.decider.proofs.+body_child_gather_walk.Given as goal
+
+abbrev pub invariant-walk-loop-left : goal.invariant-walk-loop-left
+invariant-walk-loop-left l = (l.i + l.left ≡ l.from + l.count) × (l.left ≤ l.count) × Sofar l.book (bags_of l.request) l.a l.initial.out l.n l.from l.count l.i l.left l.k l.out l.m × (height (forest l.book l.i l.left) ≤ l.depth)
+
+abbrev pub decreases-walk-loop-left : goal.decreases-walk-loop-left
+decreases-walk-loop-left l = l.left
+
+abbrev pub decreases-body : goal.decreases-body
+decreases-body l = 4 * l.s + 1
+
+abbrev pub decreases-child : goal.decreases-child
+decreases-child l = 4 * l.s + 2
+
+abbrev pub decreases-gather : goal.decreases-gather
+decreases-gather l = 4 * l.s
+
+abbrev pub decreases-walk : goal.decreases-walk
+decreases-walk l = 4 * l.count + 3

@@ -1,0 +1,13 @@
+use borrow.Author.Rules.{rules}
+use native.Mathlib.Omega.{arith}
+use mathlib.Core.Path.{sym, ◌∙◌}
+use borrow.Author.Tests.{not-true, not-false}
+use Rattle.meaning.specs.Reading.{bags_of}
+use Rattle.decider.proofs.Laws.{Seeking, seek_start, seek_skip, seek_turn, seek_stop, seek_end}
+use Rattle.decider.proofs.choose.Given as goal
+
+abbrev pub invariant-loop-left : goal.invariant-loop-left
+invariant-loop-left l = Seeking l.book (bags_of l.request) l.from l.count l.i l.left l.p
+
+abbrev pub decreases-loop-left : goal.decreases-loop-left
+decreases-loop-left l = l.left

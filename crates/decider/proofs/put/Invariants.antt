@@ -1,0 +1,12 @@
+use Prim.Native.Nat.{◌+◌, ◌≤◌}
+use mathlib.Core.Path.{◌≡◌, refl}
+use native.Mathlib.Omega.{arith}
+use borrow.Author.Rules.{rules}
+use Rattle.decider.proofs.Laws.{Putting, put_start, put_room, put_skip, put_turn, put_end}
+use Rattle.decider.proofs.put.Given as goal
+
+abbrev pub invariant-loop-left : goal.invariant-loop-left
+invariant-loop-left l = (l.i + l.left ≡ l.from + l.count) × (l.left ≤ l.count) × Putting l.book l.d l.initial.out l.n l.from l.count l.i l.left l.out l.m
+
+abbrev pub decreases-loop-left : goal.decreases-loop-left
+decreases-loop-left l = l.left

@@ -1,0 +1,7 @@
+use mathlib.Core.Path.{sym}
+use lib.Seq.{set_out}
+use borrow.Author.Rules.{rules}
+use Rattle.emission.proofs.put.Goals as goal
+
+pub returns-else-at-out : goal.returns-else-at-out
+returns-else-at-out c = sym (set_out c.args.out.now c.args.at c.args.number c.if-at-out.false)

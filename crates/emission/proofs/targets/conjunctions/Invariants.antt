@@ -1,0 +1,12 @@
+use mathlib.Core.Path.{refl}
+use native.Mathlib.Omega.{arith}
+use borrow.Author.Rules.{rules}
+use Rattle.elders.proofs.Links.{piece_of, linked_at}
+use Rattle.emission.proofs.Turns.{Going, go_begin, go_less, go_below, go_room, go_again, go_end, conjunctions_to, conjunctions_stop, conjunctions_turn, conjunctions_grow}
+use Rattle.emission.proofs.targets.conjunctions.Given as goal
+
+abbrev pub invariant-loop-next : goal.invariant-loop-next
+invariant-loop-next l = Going l.book l.elders l.i l.stop l.next l.at (conjunctions_to l.book l.stop l.l l.x l.next) l.end l.initial.out l.out l.start
+
+abbrev pub decreases-loop-next : goal.decreases-loop-next
+decreases-loop-next l = l.next

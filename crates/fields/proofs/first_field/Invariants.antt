@@ -1,0 +1,18 @@
+use native.Mathlib.Omega.{arith}
+use mathlib.Core.Path.{◌≡◌, sym, ◌∙◌}
+use Prim.Native.Nat.{◌≤◌, ◌-◌, ◌+◌}
+use native.Mathlib.Nat.{sub-zero}
+use borrow.Author.Tests.{not-true, not-false}
+use Rattle.fields.specs.First.{first_from}
+use Rattle.fields.specs.Fields.{field_ok, obligations_of}
+use Rattle.fields.proofs.Laws.{obligations_none, obligations_more}
+use Rattle.fields.proofs.First.{first_none, first_here, first_next}
+use borrow.Author.Rules.{rules}
+use Rattle.fields.proofs.first_field.Given as goal
+
+abbrev pub invariant-loop-records : goal.invariant-loop-records
+invariant-loop-records l =
+    (l.records ≤ l.n) × (l.obligations ≤ l.records) × (first_from (field_ok l.book) 0 l.n ≡ first_from (field_ok l.book) l.records (l.n - l.records)) × (l.obligations ≡ obligations_of l.book l.records)
+
+abbrev pub decreases-loop-records : goal.decreases-loop-records
+decreases-loop-records l = l.n - l.records

@@ -1,0 +1,7 @@
+use Rattle.fields.specs.Fields.{type_at}
+use borrow.Author.Rules.{rules}
+use Rattle.fields.proofs.type_at.Goals as goal
+
+pub returns : goal.returns
+unfolding type_at
+returns c = rw (← c.byte.ensures.0) c.type_of.ensures

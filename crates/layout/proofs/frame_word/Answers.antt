@@ -1,0 +1,7 @@
+use Rattle.layout.specs.Layout.{frame_word}
+use borrow.Author.Rules.{rules}
+use Rattle.layout.proofs.frame_word.Goals as goal
+
+pub returns : goal.returns
+unfolding frame_word
+returns c = rw (c.cause_code.ensures.0, c.algorithm_code.ensures.0, c.acc_code.ensures.0)

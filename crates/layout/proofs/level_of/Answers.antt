@@ -1,0 +1,7 @@
+use Rattle.layout.specs.Layout.{level_of}
+use borrow.Author.Rules.{rules}
+use Rattle.layout.proofs.level_of.Goals as goal
+
+pub returns : goal.returns
+unfolding level_of
+returns c = rw (c.op_by.ensures, c.truth_by.ensures)

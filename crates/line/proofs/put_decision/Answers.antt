@@ -1,0 +1,41 @@
+use mathlib.Core.Path.{sym, ◌∙◌}
+use native.Mathlib.Omega.{arith}
+use borrow.Author.Rules.{rules}
+use Rattle.line.proofs.Laws.{length_decision, decision_put, put_short, places_short, places_fits}
+use Rattle.line.proofs.put_decision.Goals as goal
+
+pub returns-then-out-lt7 : goal.returns-then-out-lt7
+returns-then-out-lt7 c =
+    let args = c.args in
+    (places_short _ _ (omega (arith, length_decision args.decision args.obligations.now)), put_short _ _ (omega (arith, length_decision args.decision args.obligations.now)))
+
+pub overflow_sub-out : goal.overflow_sub-out
+overflow_sub-out c = search rules
+
+pub returns-then-out-count : goal.returns-then-out-count
+returns-then-out-count c =
+    let args = c.args in
+    (places_short _ _ (omega (arith, length_decision args.decision args.obligations.now)), put_short _ _ (omega (arith, length_decision args.decision args.obligations.now)))
+
+pub two_digits-requires : goal.two_digits-requires
+two_digits-requires c = search rules
+
+pub four_digits-requires : goal.four_digits-requires
+four_digits-requires c = search rules
+
+pub put_obligations-requires : goal.put_obligations-requires
+put_obligations-requires c = search rules
+
+pub overflow_mul-result : goal.overflow_mul-result
+overflow_mul-result c = search rules
+
+pub overflow_add-result : goal.overflow_add-result
+overflow_add-result c = search rules
+
+pub shape_of-out : goal.shape_of-out
+shape_of-out c = search rules
+
+pub returns : goal.returns
+returns c =
+    let args = c.args in
+    (sym (length_decision _ _) ∙ places_fits _ _ (omega (arith, length_decision args.decision args.obligations.now)), decision_put _ _ _ (omega arith) c.two_digits.ensures c.four_digits.ensures c.put_obligations.ensures)

@@ -1,0 +1,5 @@
+use borrow.Author.Rules.{rules}
+use Rattle.moves.proofs.conditions.told_to.Goals as goal
+
+pub returns : goal.returns
+returns c = rw c.fold_of.ensures

@@ -1,0 +1,7 @@
+use Rattle.operands.specs.Operands.{operands_at}
+use borrow.Author.Rules.{rules}
+use Rattle.operands.proofs.operands_ok.Goals as goal
+
+pub returns : goal.returns
+unfolding operands_at
+returns c = rw (← c.kind_at.ensures) c.operands_of.ensures

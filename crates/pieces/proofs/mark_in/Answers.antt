@@ -1,0 +1,5 @@
+use borrow.Author.Rules.{rules}
+use Rattle.pieces.proofs.mark_in.Goals as goal
+
+pub returns-in-Nothing : goal.returns-in-Nothing
+returns-in-Nothing c = rw c.in-Nothing.is

@@ -1,0 +1,5 @@
+use borrow.Author.Rules.{rules}
+use Rattle.programme.proofs.entries.ending_by.Goals as goal
+
+pub returns : goal.returns
+returns c = rw c.unchanged.ensures

@@ -1,0 +1,7 @@
+use Rattle.meaning.specs.Meaning.{gives}
+use borrow.Author.Rules.{rules}
+use Rattle.request.proofs.holds.Goals as goal
+
+pub returns : goal.returns
+unfolding gives
+returns c = rw (← c.requires) c.holds.ensures

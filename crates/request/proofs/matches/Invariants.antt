@@ -1,0 +1,16 @@
+use borrow.Author.Rules.{rules}
+use native.Mathlib.Omega.{arith}
+use mathlib.Core.Path.{◌≡◌, refl}
+use Prim.Native.Nat.{◌-◌}
+use Rattle.meaning.specs.Meaning.{match_of}
+use Rattle.meaning.specs.Numbers.{key_of}
+use Rattle.meaning.specs.Reading.{bags_of}
+use Rattle.request.specs.Bag.{entries_of}
+use Rattle.request.proofs.Laws.{next_forth, next_has, Has, still_of, match_empty, match_begins, match_end, match_true, match_false}
+use Rattle.request.proofs.matches.Given as goal
+
+abbrev pub invariant-loop-k : goal.invariant-loop-k
+invariant-loop-k l = (l.total ≡ entries_of l.request) × Has l.request (key_of l.t) l.k × (still_of l.request l.t l.k ≡ match_of (bags_of l.request) l.t)
+
+abbrev pub decreases-loop-k : goal.decreases-loop-k
+decreases-loop-k l = l.total - l.k

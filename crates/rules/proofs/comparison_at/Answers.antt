@@ -1,0 +1,7 @@
+use Rattle.meaning.specs.Reading.{comparison_at}
+use borrow.Author.Rules.{rules}
+use Rattle.rules.proofs.comparison_at.Goals as goal
+
+pub returns : goal.returns
+unfolding comparison_at
+returns c = rw (← c.byte-choice.ensures.0, ← c.compares_by.ensures) c.test_at.ensures

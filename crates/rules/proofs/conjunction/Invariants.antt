@@ -1,0 +1,19 @@
+use borrow.Author.Rules.{rules}
+use native.Mathlib.Omega.{arith}
+use mathlib.Core.Path.{◌≡◌}
+use Prim.Native.Nat.{◌+◌, ◌-◌}
+use Rattle.record.specs.Forest.{forest}
+use Rattle.meaning.specs.Logic.{and_all, and_of}
+use Rattle.meaning.specs.Meaning.{match_of, conjunction_of}
+use Rattle.meaning.specs.Reading.{conjunction_at, bags_of}
+use Rattle.rules.proofs.Loops.{ands, ands_settle, then, turn, stop, end}
+use Rattle.rules.proofs.Laws.{truths, truths_none, match_read, matches_more, conjunction_all}
+use Rattle.rules.proofs.conjunction.Given as goal
+
+abbrev pub invariant-loop-left : goal.invariant-loop-left
+invariant-loop-left l =
+    (l.at + l.left ≡ l.i + l.s)
+    × (then and_all and_of l.acc (truths (match_of (bags_of l.request)) (match_read l.book) (forest l.book l.at l.left)) ≡ conjunction_of (bags_of l.request) (conjunction_at l.book l.i (forest l.book (l.i + 1) (l.s - 1))))
+
+abbrev pub decreases-loop-left : goal.decreases-loop-left
+decreases-loop-left l = l.left

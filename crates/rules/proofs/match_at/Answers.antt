@@ -1,0 +1,7 @@
+use Rattle.meaning.specs.Reading.{match_at}
+use borrow.Author.Rules.{rules}
+use Rattle.rules.proofs.match_at.Goals as goal
+
+pub returns : goal.returns
+unfolding match_at
+returns c = rw (← c.byte-choice.ensures.0) c.test_at.ensures

@@ -1,0 +1,7 @@
+use native.Mathlib.Omega.{arith}
+use borrow.Author.Rules.{rules}
+use Rattle.run.proofs.Laws.{number_made}
+use Rattle.run.proofs.number.Goals as goal
+
+pub returns : goal.returns
+returns c = number_made c.args.steps _ _ _ (omega arith) c.pack.ensures

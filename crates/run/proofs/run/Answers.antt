@@ -1,0 +1,6 @@
+use mathlib.Core.Path.{sym}
+use borrow.Author.Rules.{rules}
+use Rattle.run.proofs.run.Goals as goal
+
+pub returns : goal.returns
+returns c = sym c.run_in-ended.ensures

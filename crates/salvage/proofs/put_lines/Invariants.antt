@@ -1,0 +1,20 @@
+use borrow.Author.Rules.{rules}
+use native.Mathlib.Nat.{sub-zero}
+use native.Mathlib.Omega.{arith}
+use mathlib.Core.Path.{◌≡◌, refl, ◌∙◌}
+use Prim.Native.Nat.{◌≤◌, ◌-◌, ◌*◌}
+use lib.ListN.{length, length-set}
+use Rattle.record.specs.Stored.{stored}
+use Rattle.salvage.specs.Salvage.{lines_of}
+use Rattle.salvage.specs.Places.{replacements_at}
+use Rattle.salvage.proofs.Laws.{lines_more, lines_end}
+use Rattle.salvage.proofs.put_lines.Given as goal
+
+abbrev pub invariant-loop-i : goal.invariant-loop-i
+invariant-loop-i l =
+    (l.i ≤ l.m)
+    × (length l.out ≡ length l.initial.out)
+    × (stored l.out (l.i * 9) (lines_of (replacements_at l.replaced l.i (l.m - l.i))) ≡ stored l.initial.out 0 (lines_of (replacements_at l.replaced 0 l.m)))
+
+abbrev pub decreases-loop-i : goal.decreases-loop-i
+decreases-loop-i l = l.m - l.i

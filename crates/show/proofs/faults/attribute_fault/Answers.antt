@@ -1,0 +1,7 @@
+use Rattle.show.specs.Fault.{attribute_fault}
+use borrow.Author.Rules.{rules}
+use Rattle.show.proofs.faults.attribute_fault.Goals as goal
+
+pub returns : goal.returns
+unfolding attribute_fault
+returns c = rw (← c.attribute_value_fault.ensures, ← c.choose.ensures.0) c.category_fault.ensures

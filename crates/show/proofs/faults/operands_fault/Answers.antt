@@ -1,0 +1,7 @@
+use Rattle.show.specs.Fault.{operands_fault}
+use borrow.Author.Rules.{rules}
+use Rattle.show.proofs.faults.operands_fault.Goals as goal
+
+pub returns : goal.returns
+unfolding operands_fault
+returns c = c.choose.ensures.0

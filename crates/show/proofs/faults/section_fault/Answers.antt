@@ -1,0 +1,7 @@
+use Rattle.show.specs.Fault.{section_fault}
+use borrow.Author.Rules.{rules}
+use Rattle.show.proofs.faults.section_fault.Goals as goal
+
+pub returns : goal.returns
+unfolding section_fault
+returns c = rw (← c.choose.ensures.0) c.category_fault.ensures

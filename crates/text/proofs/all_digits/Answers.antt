@@ -1,0 +1,44 @@
+use borrow.Author.Rules.{rules}
+use native.Mathlib.Omega.{arith}
+use mathlib.Core.Path.{◌≡◌, refl, sym, ◌∙◌}
+use mathlib.Core.Bool.{true}
+use Prim.Native.Nat.{◌≤◌, ◌-◌}
+use borrow.Author.Tests.{not-true, not-false}
+use Rattle.record.specs.Below.{all_below}
+use Rattle.record.proofs.Below.{all_more, all_false}
+use Rattle.text.specs.Text.{digit_at}
+use Rattle.text.proofs.all_digits.Goals as goal
+
+pub loop-j-init : goal.loop-j-init
+unfolding all_below
+loop-j-init c = (search rules, refl)
+
+pub overflow_add-at : goal.overflow_add-at
+overflow_add-at c = search rules
+
+pub bounds-text-at : goal.bounds-text-at
+bounds-text-at c = search rules
+
+pub is_digit-requires : goal.is_digit-requires
+is_digit-requires c = search rules
+
+pub returns-then-not-is_digit : goal.returns-then-not-is_digit
+returns-then-not-is_digit c =
+    let a = c.args in
+    sym (all_false (digit_at a.text.now a.at) a.n c.loop-j.j (search rules) (sym c.is_digit.ensures ∙ not-true _ c.if-not-is_digit.true-raw))
+
+pub overflow_add-j : goal.overflow_add-j
+overflow_add-j c = search rules
+
+pub loop-j-smaller : goal.loop-j-smaller
+loop-j-smaller c = search rules
+
+pub loop-j-preserved : goal.loop-j-preserved
+loop-j-preserved c =
+    let a = c.args in
+    (search rules, all_more (digit_at a.text.now a.at) _ c.loop-j.invariant.1 (sym c.is_digit.ensures ∙ not-false _ c.if-not-is_digit.false-raw))
+
+pub returns : goal.returns
+returns c =
+    let e : c.loop-j.j ≡ c.args.n = omega arith in
+    sym (rw e at c.loop-j.invariant.1)

@@ -1,0 +1,65 @@
+use borrow.Author.Rules.{rules}
+use native.Mathlib.Omega.{arith}
+use mathlib.Core.Path.{◌≡◌, sym, ◌∙◌}
+use Prim.Native.Nat.{◌≤◌, ◌-◌, ◌+◌}
+use native.Mathlib.Nat.{sub-zero}
+use lib.ListN.{length}
+use borrow.Author.Tests.{not-true, not-false}
+use Rattle.text.specs.Text.{start, judge_from}
+use Rattle.text.proofs.Widths.{start_none, start_more}
+use Rattle.text.proofs.Lined.{judge_end, judge_over, judge_wrong, judge_more, good_within}
+use Rattle.text.proofs.judge.Goals as goal
+
+pub loop-n-init : goal.loop-n-init
+loop-n-init c = (search rules, sym (start_none _), search rules, rw sub-zero)
+
+pub returns-then-text-at : goal.returns-then-text-at
+returns-then-text-at c = let l = c.loop-n in sym (l.invariant.3 ∙ judge_end _ _ _ _ l.invariant.1 c.if-text-at.true)
+
+pub good_line-requires : goal.good_line-requires
+good_line-requires c = search rules
+
+pub overflow_add-line : goal.overflow_add-line
+overflow_add-line c = search rules
+
+pub returns-then-not-good_line : goal.returns-then-not-good_line
+returns-then-not-good_line c =
+    let l = c.loop-n in
+    let most = c.args.most in
+    sym (l.invariant.3 ∙ judge_wrong _ _ (most - l.n) (most - (l.n + 1)) l.n (omega arith) l.invariant.1 (search rules) (sym c.good_line.ensures ∙ not-true _ c.if-not-good_line.true-raw))
+
+pub overflow_add-n : goal.overflow_add-n
+overflow_add-n c = search rules
+
+pub overflow_mul-at : goal.overflow_mul-at
+overflow_mul-at c = search rules
+
+pub overflow_add-at : goal.overflow_add-at
+overflow_add-at c = search rules
+
+pub overflow_add-at-in-loop-n : goal.overflow_add-at-in-loop-n
+overflow_add-at-in-loop-n c = search rules
+
+pub loop-n-smaller : goal.loop-n-smaller
+loop-n-smaller c = search rules
+
+pub loop-n-preserved : goal.loop-n-preserved
+loop-n-preserved c =
+    let l = c.loop-n in
+    let a = c.args in
+    let g = sym c.good_line.ensures ∙ not-false _ c.if-not-good_line.false-raw in
+    let fit = good_within _ _ _ g in (
+      search rules,
+      omega (arith, start_more a.w l.n, l.invariant.1),
+      omega (arith, fit),
+      l.invariant.3 ∙ judge_more _ _ (a.most - l.n) (a.most - (l.n + 1)) l.n (omega arith) l.invariant.1 (search rules) g,
+    )
+
+pub returns-then-text-at-2 : goal.returns-then-text-at-2
+returns-then-text-at-2 c = let l = c.loop-n in sym (l.invariant.3 ∙ judge_end _ _ _ _ l.invariant.1 c.if-text-at-2.true)
+
+pub returns : goal.returns
+returns c =
+    let l = c.loop-n in
+    let e : c.args.most - l.n ≡ 0 = omega arith in
+    sym (rw e at l.invariant.3 ∙ judge_over _ _ l.n l.invariant.1 c.if-text-at-2.false)

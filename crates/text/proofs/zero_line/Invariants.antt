@@ -1,0 +1,12 @@
+use borrow.Author.Rules.{rules}
+use native.Mathlib.Omega.{arith}
+use Prim.Native.Nat.{◌≤◌, ◌-◌}
+use Rattle.record.proofs.Filling.{fill_none}
+use Rattle.text.proofs.Zeroed.{Lit, lit_more, lit_done}
+use Rattle.text.proofs.zero_line.Given as goal
+
+abbrev pub invariant-loop-i : goal.invariant-loop-i
+invariant-loop-i l = (l.at ≤ l.i) × (l.i ≤ l.end) × Lit l.initial.text l.at l.end l.good l.i l.text
+
+abbrev pub decreases-loop-i : goal.decreases-loop-i
+decreases-loop-i l = l.end - l.i

@@ -1,0 +1,63 @@
+use lib.ListN.{length}
+use Prim.Native.Nat.{◌<◌, ◌≤◌, ◌-◌}
+use mathlib.Core.Bool.{true}
+use mathlib.Core.Path.{◌≡◌, refl}
+use native.Mathlib.Omega.{arith}
+use borrow.Author.Rules.{rules}
+use Rattle.record.specs.Below.{all_below}
+use Rattle.record.proofs.Choose.{in_among, below_among, above_among}
+use Rattle.record.proofs.Below.{all_more}
+use Rattle.ticks.proofs.Decimal.{decimal_none, decimal_more, budget_empty, budget_other, budget_large, budget_done}
+use Rattle.ticks.specs.Budget.{is_decimal, decimal_of}
+use Rattle.ticks.proofs.budget.budget_in.Goals as goal
+
+pub returns-then-word-eq0 : goal.returns-then-word-eq0
+returns-then-word-eq0 c = budget_empty _ (omega arith)
+
+pub loop-i-init : goal.loop-i-init
+unfolding all_below
+loop-i-init c = (search rules, search rules, refl, decimal_none _, search rules)
+
+pub bounds-word-i : goal.bounds-word-i
+bounds-word-i c = search rules
+
+pub returns-then-c-lt48 : goal.returns-then-c-lt48
+returns-then-c-lt48 c = budget_other _ c.loop-i.i (search rules) (below_among 48 57 _ c.if-c-lt48.true)
+
+pub returns-then-c-gt57 : goal.returns-then-c-gt57
+returns-then-c-gt57 c = budget_other _ c.loop-i.i (search rules) (above_among 48 57 _ c.if-c-gt57.true)
+
+pub overflow_cast-digit : goal.overflow_cast-digit
+overflow_cast-digit c = search rules
+
+pub overflow_sub-digit-in-loop-i : goal.overflow_sub-digit-in-loop-i
+overflow_sub-digit-in-loop-i c = search rules
+
+pub returns-then-digit-n : goal.returns-then-digit-n
+returns-then-digit-n c =
+    let args = c.args in
+    let loop = c.loop-i in
+    budget_large _ loop.i (search rules) (omega (arith, decimal_more args.word.now loop.i, loop.invariant.3, c.if-digit-n.true))
+
+pub overflow_mul-n : goal.overflow_mul-n
+overflow_mul-n c = search rules
+
+pub overflow_add-n : goal.overflow_add-n
+overflow_add-n c = search rules
+
+pub overflow_add-i : goal.overflow_add-i
+overflow_add-i c = search rules
+
+pub loop-i-smaller : goal.loop-i-smaller
+loop-i-smaller c = search rules
+
+pub loop-i-preserved : goal.loop-i-preserved
+loop-i-preserved c =
+    let args = c.args in
+    let loop = c.loop-i in
+    let if2 = c.if-c-lt48 in
+    let if3 = c.if-c-gt57 in
+    (search rules, search rules, all_more (is_decimal args.word.now) loop.i loop.invariant.2 (in_among 48 57 _ if2.false if3.false), omega (arith, decimal_more args.word.now loop.i, loop.invariant.3), search rules)
+
+pub returns : goal.returns
+returns c = budget_done _ c.loop-i.i c.loop-i.invariant.0 (omega arith) c.loop-i.invariant.2 c.loop-i.invariant.3 c.loop-i.invariant.4

@@ -1,0 +1,20 @@
+use borrow.Author.Tests.{ne_eqb}
+use Rattle.weigh.proofs.operator_of.Goals as goal
+
+pub returns-in-3 : goal.returns-in-3
+returns-in-3 c = rw c.in-3.is
+
+pub returns-in-4 : goal.returns-in-4
+returns-in-4 c = rw c.in-4.is
+
+pub returns-in-5 : goal.returns-in-5
+returns-in-5 c = rw c.in-5.is
+
+pub returns-in-6 : goal.returns-in-6
+returns-in-6 c = rw c.in-6.is
+
+pub returns-in-7 : goal.returns-in-7
+returns-in-7 c = rw c.in-7.is
+
+pub returns-in_default : goal.returns-in_default
+returns-in_default c = let n = c.in_default.in_default-own.rest in rw (ne_eqb _ 3 n.0.0.0.0.1, ne_eqb _ 4 n.0.0.0.1, ne_eqb _ 5 n.0.0.1, ne_eqb _ 6 n.0.1, ne_eqb _ 7 n.1)
