@@ -13,7 +13,7 @@ use Rattle.meaning.specs.declared.Cause.TheVariants.{NoCause, By}
 use Rattle.meaning.specs.declared.Decision.{Decision}
 use Rattle.meaning.specs.declared.Algorithm.{Algorithm}
 use Rattle.meaning.specs.declared.Algorithm.TheVariants.{RulesDeny, RulesPermit, First, PoliciesDeny, PoliciesPermit, OnlyOne}
-use Rattle.algorithm.specs.Fold.{join, rank_of, result, settled}
+use Rattle.algorithm.specs.Fold.{join, rank_of, fold_result, settled}
 use Rattle.algorithm.specs.Tally.{fresh, verdict_so_far}
 use Rattle.algorithm.specs.declared.Rank.{Rank}
 use Rattle.algorithm.specs.declared.Rank.TheVariants.{R0}
@@ -140,4 +140,4 @@ cause_right OnlyOne cs = only_cause cs
 
 pub verdict_right : (a : Algorithm) (cs : List Child) → verdict_so_far a (walks a (fresh a) cs) ≡ verdict_of a cs
 unfolding verdict_of
-verdict_right a cs = ap₂ coded (ap (result a) (walks_acc a (fresh a) cs) ∙ result_right a cs) (cause_right a cs)
+verdict_right a cs = ap₂ coded (ap (fold_result a) (walks_acc a (fresh a) cs) ∙ result_right a cs) (cause_right a cs)

@@ -10,7 +10,7 @@ use Rattle.meaning.specs.declared.Cause.TheVariants.{NoCause}
 use Rattle.meaning.specs.declared.Verdict.{Verdict}
 use Rattle.meaning.specs.declared.Algorithm.{Algorithm}
 use Rattle.algorithm.specs.declared.tally.Tally.{Tally}
-use Rattle.algorithm.specs.Fold.{start, result, absorb}
+use Rattle.algorithm.specs.Fold.{start, fold_result, absorb}
 
 abbrev pub fresh : Algorithm → Tally
 fresh a = record { acc = start a; cause = NoCause }
@@ -25,4 +25,4 @@ tallied a k e v = record { acc = absorb a k.acc e (decision_in v); cause = notin
 
 -- the verdict so far
 abbrev pub verdict_so_far : Algorithm → Tally → Verdict
-verdict_so_far a k = coded (result a k.acc) k.cause
+verdict_so_far a k = coded (fold_result a k.acc) k.cause

@@ -14,7 +14,7 @@ use Rattle.meaning.specs.declared.Decision.{Decision}
 use Rattle.meaning.specs.declared.Decision.TheVariants.{Permit, Deny, NotApplicable, Indeterminate}
 use Rattle.meaning.specs.declared.Algorithm.{Algorithm}
 use Rattle.meaning.specs.declared.Algorithm.TheVariants.{RulesDeny, RulesPermit, First, PoliciesDeny, PoliciesPermit, OnlyOne}
-use Rattle.algorithm.specs.Fold.{start, join, rank_of, result, settled, absorb}
+use Rattle.algorithm.specs.Fold.{start, join, rank_of, fold_result, settled, absorb}
 use Rattle.algorithm.specs.declared.Rank.{Rank}
 use Rattle.algorithm.specs.declared.Rank.TheVariants.{R0, R1, R2, R3, R4}
 use Rattle.algorithm.specs.declared.Acc.{Acc}
@@ -47,7 +47,7 @@ leaves a r e d v = implies (ahead a (join r (rank_of a e d)) v) (both (ahead a r
 
 -- and one that is reached was ahead, unless it was reached before
 reaches : Algorithm → Rank → Effect → Decision → Decision → Bool
-reaches a r e d v = implies (is (result a (Ranked (join r (rank_of a e d)))) v) (implies (not (is (result a (Ranked r)) v)) (ahead a r v))
+reaches a r e d v = implies (is (fold_result a (Ranked (join r (rank_of a e d)))) v) (implies (not (is (fold_result a (Ranked r)) v)) (ahead a r v))
 
 climbs : Algorithm → Rank → Effect → Decision → Effect → Bool
 climbs a r e d x = both (leaves a r e d (decision_of x)) (reaches a r e d (decision_of x))
@@ -120,11 +120,11 @@ module _ (a : Algorithm) (plain : is_only a ≡ false) where
       go true false i e h = (cc, cc)
       go false q i e h = (cc, cc)
 
-  was_ahead : (r : Rank) (e : Effect) (d : Decision) (x : Effect) → result a (Ranked (join r (rank_of a e d))) ≡ decision_of x
-      → is (result a (Ranked r)) (decision_of x) ≡ false → ahead a r (decision_of x) ≡ true
+  was_ahead : (r : Rank) (e : Effect) (d : Decision) (x : Effect) → fold_result a (Ranked (join r (rank_of a e d))) ≡ decision_of x
+      → is (fold_result a (Ranked r)) (decision_of x) ≡ false → ahead a r (decision_of x) ≡ true
   unfolding climbs reaches
   was_ahead r e d x h n =
-      go (is (result a (Ranked (join r (rank_of a e d)))) (decision_of x)) (is (result a (Ranked r)) (decision_of x)) (ahead a r (decision_of x))
+      go (is (fold_result a (Ranked (join r (rank_of a e d)))) (decision_of x)) (is (fold_result a (Ranked r)) (decision_of x)) (ahead a r (decision_of x))
       (both_parts (leaves a r e d (decision_of x)) (reaches a r e d (decision_of x)) (one_more r e d x)).1 (ap (λ z. is z (decision_of x)) h ∙ self x) n
     where
       self : (x : Effect) → is (decision_of x) (decision_of x) ≡ true
@@ -141,9 +141,9 @@ pub record Standing (a : Algorithm) (cs : List Child) (acc : Acc) (rest : List C
   rank : Rank
   ranked : acc ≡ Ranked rank
   up : Decision → List ℕ
-  stands : xs ≡ binding (result a acc) (up (result a acc))
+  stands : xs ≡ binding (fold_result a acc) (up (fold_result a acc))
   late : (x : Effect) → ahead a rank (decision_of x) ≡ true → up (decision_of x) ≡ []
-  says : result a (walk a acc rest) ≡ combine a cs
+  says : fold_result a (walk a acc rest) ≡ combine a cs
   gives : (d : Decision) → up d ++ gave a d acc rest ≡ gave a d (start a) cs
 
 pub bind_none : (d : Decision) → [] ≡ binding d []
@@ -186,7 +186,7 @@ module _ (a : Algorithm) (plain : is_only a ≡ false) where
     rank = R0;
     ranked = from_bottom a plain;
     up = λ d. [];
-    stands = bind_none (result a (start a));
+    stands = bind_none (fold_result a (start a));
     late = λ x e. refl;
     says = result_right a cs;
     gives = λ d. refl;
@@ -230,18 +230,18 @@ module _ (a : Algorithm) (plain : is_only a ≡ false) where
   -- one child more; where the algorithm is settled nothing comes after it
   pub stand_turn : {cs : List Child} {acc : Acc} {c : Child} {rest : List Child} {xs : List ℕ} → Standing a cs acc (c ∷ rest) xs
       → Standing a cs (absorb a acc c.effect (said c)) (if (settled a (absorb a acc c.effect (said c))) [] rest)
-      (stay (result a acc) xs (said c) (owed c.target c.duties) (result a (absorb a acc c.effect (said c))))
+      (stay (fold_result a acc) xs (said c) (owed c.target c.duties) (fold_result a (absorb a acc c.effect (said c))))
   stand_turn {cs} {acc} {c} {rest} {xs} w = record {
     rank = join w.rank (rank_of a c.effect (said c));
     ranked = ap (λ z. absorb a z c.effect (said c)) w.ranked;
     up = λ d. w.up d ++ hands d c;
-    stands = stands_more (result a acc) (said c) (result a (absorb a acc c.effect (said c))) w.up xs (owed c.target c.duties) w.stands before;
+    stands = stands_more (fold_result a acc) (said c) (fold_result a (absorb a acc c.effect (said c))) w.up xs (owed c.target c.duties) w.stands before;
     late = λ x h. after x (still_ahead a plain w.rank c.effect (said c) x h);
-    says = ap (result a) (walk_more acc c rest) ∙ w.says;
+    says = ap (fold_result a) (walk_more acc c rest) ∙ w.says;
     gives = λ d. append_assoc (w.up d) (hands d c) _ ∙ ap (λ z. w.up d ++ z) (gave_more d acc c rest) ∙ w.gives d;
   }
     where
-      before : (x : Effect) → result a (absorb a acc c.effect (said c)) ≡ decision_of x → is (result a acc) (decision_of x) ≡ false → w.up (decision_of x) ≡ []
+      before : (x : Effect) → fold_result a (absorb a acc c.effect (said c)) ≡ decision_of x → is (fold_result a acc) (decision_of x) ≡ false → w.up (decision_of x) ≡ []
       before x e n = w.late x (was_ahead a plain w.rank c.effect (said c) x (rw w.ranked at e) (rw w.ranked at n))
 
       after : (x : Effect) → (ahead a w.rank (decision_of x) ≡ true) × (is (said c) (decision_of x) ≡ false) → w.up (decision_of x) ++ hands (decision_of x) c ≡ []

@@ -27,7 +27,7 @@ use Rattle.meaning.specs.declared.Verdict.{Verdict}
 use Rattle.meaning.specs.declared.Verdict.TheVariants as verdict
 use Rattle.meaning.specs.declared.Algorithm.{Algorithm}
 use Rattle.meaning.specs.declared.Algorithm.TheVariants.{RulesDeny, RulesPermit, First, PoliciesDeny, PoliciesPermit, OnlyOne}
-use Rattle.algorithm.specs.Fold.{result, settled}
+use Rattle.algorithm.specs.Fold.{fold_result, settled}
 use Rattle.algorithm.specs.Tally.{fresh, tallied, verdict_so_far}
 use Rattle.algorithm.specs.declared.tally.Tally.{Tally}
 use Rattle.algorithm.proofs.Causes.{tallies, walks, verdict_right, walks_more}
@@ -262,7 +262,7 @@ module _ {b : List ℕ} {g : Bags} {a : Algorithm} {l : List ℕ} {n from count 
     -- a child was decided, and some of what stands stays
     module _ {before after d : Decision} {v : Verdict} {x y z : Bool} {next : Tally} {c f : List ℕ} {t r : ℕ} (party : q ≡ true)
         (child : Ruled o m (verdict_in (child_at b g i s)) (owed (child_at b g i s).target (child_at b g i s).duties) (room_of b (forest b (i + 1) (s - 1))) c v t)
-        (ce : length c ≡ length o) (ed : d ≡ decision_in v) (eb : before ≡ result a k.acc) (en : next ≡ tallied a k Permits v) (ea : after ≡ result a next.acc)
+        (ce : length c ≡ length o) (ed : d ≡ decision_in v) (eb : before ≡ fold_result a k.acc) (en : next ≡ tallied a k Permits v) (ea : after ≡ fold_result a next.acc)
         (ex : x ≡ keeps before after) (ey : y ≡ keeps d after) (ez : z ≡ settled a next.acc)
         (st : Stacked c (if x m n) (if y (between m t c) []) f r) (hn : n ≤ length l) (hm : m ≤ length o) where
       step : Standing a (children_in b g from count) next.acc (if z [] (children_in b g (i + s) (left - s))) (if x w.xs [] ++ if y (owed (child_at b g i s).target (child_at b g i s).duties) [])

@@ -11,28 +11,28 @@ use Rattle.decider.proofs.+body_child_gather_walk.Goals as goal
 
 pub body-gather-r-requires : goal.body-gather-r-requires
 body-gather-r-requires t c =
-    (omega arith, (c.requires.1.0, c.requires.1.1, omega (arith, c.requires.1.2, rooms c.args.book.now (c.args.i + 1) (c.args.s - 1)), c.requires.1.3))
+    (omega arith, (c.requires.0, c.requires.1, omega (arith, c.requires.2, rooms c.args.book.now (c.args.i + 1) (c.args.s - 1)), c.requires.3))
 
 pub body-own-m-requires : goal.body-own-m-requires
 body-own-m-requires t c =
-    (search rules, omega (arith, c.gather-r.ensures.puts.within, c.gather-r.auto.out, c.requires.1.2, rooms c.args.book.now (c.args.i + 1) (c.args.s - 1)))
+    (search rules, omega (arith, c.gather-r.ensures.puts.within, c.gather-r.auto.out, c.requires.2, rooms c.args.book.now (c.args.i + 1) (c.args.s - 1)))
 
 pub body-returns : goal.body-returns
 body-returns t c = body_own _ _ _ _ c.gather-r.ensures c.decision_in.ensures c.own-m.ensures
 
 pub child-body-requires : goal.child-body-requires
 child-body-requires t c =
-    (omega arith, (c.requires.1.0, c.requires.1.1, c.requires.1.2, c.requires.1.3))
+    (omega arith, (c.requires.0, c.requires.1, c.requires.2, c.requires.3))
 
 pub child-returns-in-False : goal.child-returns-in-False
-child-returns-in-False t c = child_no _ _ _ _ c.requires.1.4 _ _ _ c.in-False.is
+child-returns-in-False t c = child_no _ _ _ _ c.requires.4 _ _ _ c.in-False.is
 
 pub child-returns-in-Unknown : goal.child-returns-in-Unknown
-child-returns-in-Unknown t c = child_lost _ _ _ _ c.requires.1.4 _ _ _ c.in-Unknown.is
+child-returns-in-Unknown t c = child_lost _ _ _ _ c.requires.4 _ _ _ c.in-Unknown.is
 
 pub child-returns-in-True : goal.child-returns-in-True
 child-returns-in-True t c =
-    child_yes _ _ _ _ c.requires.1.4 c.in-True.is c.body.ensures
+    child_yes _ _ _ _ c.requires.4 c.in-True.is c.body.ensures
 
 pub gather-returns-then-kind-ne1 : goal.gather-returns-then-kind-ne1
 gather-returns-then-kind-ne1 t c = gather_rules _ _ _ _ c.byte-kind.ensures.0 c.byte-choice.ensures.0 _ _ _ c.if-kind-ne1.true c.rules-v.ensures
@@ -40,12 +40,12 @@ gather-returns-then-kind-ne1 t c = gather_rules _ _ _ _ c.byte-kind.ensures.0 c.
 pub gather-overflow_sub-depth : goal.gather-overflow_sub-depth
 gather-overflow_sub-depth t c =
     let w = picked_one _ _ _ _ c.choose-p.ensures c.in-One.is in
-    omega (arith, w.applies.nest, c.requires.1.3)
+    omega (arith, w.applies.nest, c.requires.3)
 
 pub gather-body-requires : goal.gather-body-requires
 gather-body-requires t c =
     let w = picked_one _ _ _ _ c.choose-p.ensures c.in-One.is in
-    (omega (arith, w.applies.fits, c.requires.1.0), (w.applies.there, omega (arith, w.applies.ends, c.requires.1.0, c.requires.1.1), omega (arith, w.applies.room, c.requires.1.2), omega (arith, w.applies.nest, c.requires.1.3)))
+    (omega (arith, w.applies.fits, c.requires.0), (w.applies.there, omega (arith, w.applies.ends, c.requires.0, c.requires.1), omega (arith, w.applies.room, c.requires.2), omega (arith, w.applies.nest, c.requires.3)))
 
 pub gather-returns-in-Nobody : goal.gather-returns-in-Nobody
 gather-returns-in-Nobody t c =
@@ -62,18 +62,18 @@ gather-returns-in-One t c =
 
 pub gather-walk-requires : goal.gather-walk-requires
 gather-walk-requires t c =
-    (search rules, (search rules, c.requires.1.2, c.requires.1.3, sym c.is_only.ensures ∙ c.if-is_only.false))
+    (search rules, (search rules, c.requires.2, c.requires.3, sym c.is_only.ensures ∙ c.if-is_only.false))
 
 pub gather-returns : goal.gather-returns
 gather-returns t c =
     gather_walk _ _ _ _ c.byte-kind.ensures.0 c.byte-choice.ensures.0 c.if-kind-ne1.false c.over_policies-a.ensures c.walk.ensures
 
 pub walk-loop-left-init : goal.walk-loop-left-init
-walk-loop-left-init t c = (refl, omega arith, walk_start _ _ _ _ _ _ _ c.requires.1.3 c.begin-k.ensures, c.requires.1.2)
+walk-loop-left-init t c = (refl, omega arith, walk_start _ _ _ _ _ _ _ c.requires.3 c.begin-k.ensures, c.requires.2)
 
 pub walk-loop-left-preserved-then-not-is_party : goal.walk-loop-left-preserved-then-not-is_party
 walk-loop-left-preserved-then-not-is_party t c =
-    (omega arith, omega arith, walk_skip c.requires.1.3 c.loop-left.invariant.2 c.loop-left-test.true c.span_in-s.ensures.0 c.is_party.ensures (not-true _ c.if-not-is_party.true-raw), omega (arith, c.loop-left.invariant.3, nest_rest _ _ _ c.loop-left-test.true c.span_in-s.ensures.0))
+    (omega arith, omega arith, walk_skip c.requires.3 c.loop-left.invariant.2 c.loop-left-test.true c.span_in-s.ensures.0 c.is_party.ensures (not-true _ c.if-not-is_party.true-raw), omega (arith, c.loop-left.invariant.3, nest_rest _ _ _ c.loop-left-test.true c.span_in-s.ensures.0))
 
 pub walk-overflow_sub-depth : goal.walk-overflow_sub-depth
 walk-overflow_sub-depth t c = omega (arith, c.loop-left.invariant.3, nest_kids _ _ _ c.loop-left-test.true c.span_in-s.ensures.0)
@@ -81,12 +81,12 @@ walk-overflow_sub-depth t c = omega (arith, c.loop-left.invariant.3, nest_kids _
 pub walk-child-r-requires : goal.walk-child-r-requires
 walk-child-r-requires t c =
     let sofar = c.loop-left.invariant.2 in
-    (search rules, (search rules, search rules, omega (arith, sofar.room, sofar.kept, c.requires.1.1, deep_is _ _ _ c.loop-left-test.true c.span_in-s.ensures.0), omega (arith, c.loop-left.invariant.3, nest_kids _ _ _ c.loop-left-test.true c.span_in-s.ensures.0), c.target-t.ensures))
+    (search rules, (search rules, search rules, omega (arith, sofar.room, sofar.kept, c.requires.1, deep_is _ _ _ c.loop-left-test.true c.span_in-s.ensures.0), omega (arith, c.loop-left.invariant.3, nest_kids _ _ _ c.loop-left-test.true c.span_in-s.ensures.0), c.target-t.ensures))
 
 pub walk-settle-m-requires : goal.walk-settle-m-requires
 walk-settle-m-requires t c =
     let sofar = c.loop-left.invariant.2 in
-    (omega (arith, sofar.holds.count), omega (arith, c.child-r.ensures.puts.holds.count), omega (arith, c.child-r.ensures.puts.within, sofar.room, sofar.kept, c.child-r.auto.out, c.requires.1.1, deep_is _ _ _ c.loop-left-test.true c.span_in-s.ensures.0))
+    (omega (arith, sofar.holds.count), omega (arith, c.child-r.ensures.puts.holds.count), omega (arith, c.child-r.ensures.puts.within, sofar.room, sofar.kept, c.child-r.auto.out, c.requires.1, deep_is _ _ _ c.loop-left-test.true c.span_in-s.ensures.0))
 
 pub walk-shape_of-out-then-settles : goal.walk-shape_of-out-then-settles
 walk-shape_of-out-then-settles t c =
@@ -95,7 +95,7 @@ walk-shape_of-out-then-settles t c =
 pub walk-returns-then-settles : goal.walk-returns-then-settles
 walk-returns-then-settles t c =
     let sofar = c.loop-left.invariant.2 in
-    walk_stop c.requires.1.3 sofar c.loop-left-test.true c.span_in-s.ensures.0 c.is_party.ensures (not-false _ c.if-not-is_party.false-raw) c.child-r.ensures c.child-r.auto.out c.decision_in-d.ensures c.outcome-before.ensures c.take_in-k.ensures c.outcome-after.ensures c.stay.ensures c.stay-in-loop-left.ensures c.settles.ensures c.settle-m.ensures (omega (arith, c.requires.1.1)) (omega (arith, sofar.room, sofar.kept, c.requires.1.1)) c.if-settles.true c.verdict.ensures
+    walk_stop c.requires.3 sofar c.loop-left-test.true c.span_in-s.ensures.0 c.is_party.ensures (not-false _ c.if-not-is_party.false-raw) c.child-r.ensures c.child-r.auto.out c.decision_in-d.ensures c.outcome-before.ensures c.take_in-k.ensures c.outcome-after.ensures c.stay.ensures c.stay-in-loop-left.ensures c.settles.ensures c.settle-m.ensures (omega (arith, c.requires.1)) (omega (arith, sofar.room, sofar.kept, c.requires.1)) c.if-settles.true c.verdict.ensures
 
 pub walk-overflow_sub-left-in-loop-left : goal.walk-overflow_sub-left-in-loop-left
 walk-overflow_sub-left-in-loop-left t c =
@@ -110,7 +110,7 @@ walk-loop-left-preserved t c =
     let sofar = c.loop-left.invariant.2 in (
       omega (arith, c.loop-left.invariant.0, c.span_in-s.ensures.1.1),
       omega (arith, c.loop-left.invariant.1),
-      walk_turn c.requires.1.3 sofar c.loop-left-test.true c.span_in-s.ensures.0 c.is_party.ensures (not-false _ c.if-not-is_party.false-raw) c.child-r.ensures c.child-r.auto.out c.decision_in-d.ensures c.outcome-before.ensures c.take_in-k.ensures c.outcome-after.ensures c.stay.ensures c.stay-in-loop-left.ensures c.settles.ensures c.settle-m.ensures (omega (arith, c.requires.1.1)) (omega (arith, sofar.room, sofar.kept, c.requires.1.1)) c.settle-m.auto.out c.if-settles.false,
+      walk_turn c.requires.3 sofar c.loop-left-test.true c.span_in-s.ensures.0 c.is_party.ensures (not-false _ c.if-not-is_party.false-raw) c.child-r.ensures c.child-r.auto.out c.decision_in-d.ensures c.outcome-before.ensures c.take_in-k.ensures c.outcome-after.ensures c.stay.ensures c.stay-in-loop-left.ensures c.settles.ensures c.settle-m.ensures (omega (arith, c.requires.1)) (omega (arith, sofar.room, sofar.kept, c.requires.1)) c.settle-m.auto.out c.if-settles.false,
       omega (arith, c.loop-left.invariant.3, nest_rest _ _ _ c.loop-left-test.true c.span_in-s.ensures.0),
     )
 
@@ -118,4 +118,4 @@ pub walk-shape_of-out : goal.walk-shape_of-out
 walk-shape_of-out t c = c.loop-left.invariant.2.kept
 
 pub walk-returns : goal.walk-returns
-walk-returns t c = walk_end c.requires.1.3 c.loop-left.invariant.2 c.loop-left-test.false c.verdict-2.ensures
+walk-returns t c = walk_end c.requires.3 c.loop-left.invariant.2 c.loop-left-test.false c.verdict-2.ensures

@@ -9,20 +9,20 @@ pub returns-then-from-stop : goal.returns-then-from-stop
 returns-then-from-stop t c = linking_none _ _ _ _ c.if-from-stop.true
 
 pub loop-i-init : goal.loop-i-init
-loop-i-init t c = linking_begin _ _ _ _ (omega (arith, c.if-from-stop.false, c.requires.1.0))
+loop-i-init t c = linking_begin _ _ _ _ (omega (arith, c.if-from-stop.false, c.requires.0))
 
 pub link-requires : goal.link-requires
 link-requires t c =
-    let f = first_le c.loop-i.invariant.row in let n = next_le c.loop-i.invariant c.loop-i-test.true c.span_in-s.ensures.0 in (omega (arith, f, n), (omega (arith, c.if-s-gt1.true), omega (arith, n, c.requires.1.1), omega (arith, n, c.requires.1.2), omega (arith, n, c.requires.1.3, c.loop-i.invariant.kept.long, length-set c.loop-i.elders c.loop-i.i c.narrow.result)))
+    let f = first_le c.loop-i.invariant.row in let n = next_le c.loop-i.invariant c.loop-i-test.true c.span_in-s.ensures.0 in (omega (arith, f, n), (omega (arith, c.if-s-gt1.true), omega (arith, n, c.requires.1), omega (arith, n, c.requires.2), omega (arith, n, c.requires.3, c.loop-i.invariant.kept.long, length-set c.loop-i.elders c.loop-i.i c.narrow.result)))
 
 pub loop-i-preserved-then-s-gt1 : goal.loop-i-preserved-then-s-gt1
 loop-i-preserved-then-s-gt1 t c =
-    linking_more c.loop-i.invariant c.loop-i-test.true c.span_in-s.ensures.0 c.narrow.ensures (omega (arith, c.loop-i.invariant.kept.long, c.loop-i-test.true, c.requires.1.3)) c.link.ensures.0 c.link.ensures.1
+    linking_more c.loop-i.invariant c.loop-i-test.true c.span_in-s.ensures.0 c.narrow.ensures (omega (arith, c.loop-i.invariant.kept.long, c.loop-i-test.true, c.requires.3)) c.link.ensures.0 c.link.ensures.1
 
 pub loop-i-preserved : goal.loop-i-preserved
 loop-i-preserved t c =
-    linking_one c.loop-i.invariant c.loop-i-test.true c.span_in-s.ensures.0 c.narrow.ensures (omega (arith, c.loop-i.invariant.kept.long, c.loop-i-test.true, c.requires.1.3)) (search rules)
+    linking_one c.loop-i.invariant c.loop-i-test.true c.span_in-s.ensures.0 c.narrow.ensures (omega (arith, c.loop-i.invariant.kept.long, c.loop-i-test.true, c.requires.3)) (search rules)
 
 pub returns : goal.returns
 returns t c =
-    linking_end c.loop-i.invariant c.loop-i-test.false (omega (arith, c.if-from-stop.false, c.requires.1.0)) (omega (arith, c.loop-i.invariant.kept.long, c.requires.1.3)) c.narrow-2.ensures
+    linking_end c.loop-i.invariant c.loop-i-test.false (omega (arith, c.if-from-stop.false, c.requires.0)) (omega (arith, c.loop-i.invariant.kept.long, c.requires.3)) c.narrow-2.ensures

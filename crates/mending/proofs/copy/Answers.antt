@@ -13,17 +13,15 @@ loop-from-init c = (omega arith, omega arith, refl, refl)
 
 pub loop-from-preserved : goal.loop-from-preserved
 loop-from-preserved c =
-    let l = c.loop-from in
     let book = c.args.book.now in
     let end = (c.args.i + c.args.n) * size in (
       omega arith,
       omega arith,
-      length-set l.out l.to (get_or book l.from 0) ∙ l.invariant.2,
-      sym (stored_more book l.out l.from l.to end c.loop-from-test.true c.requires.0) ∙ l.invariant.3,
+      length-set c.loop-from.out c.loop-from.to (get_or book c.loop-from.from 0) ∙ c.loop-from.invariant.2,
+      sym (stored_more book c.loop-from.out c.loop-from.from c.loop-from.to end c.loop-from-test.true c.requires.0) ∙ c.loop-from.invariant.3,
     )
 
 pub returns : goal.returns
 returns c =
-    let l = c.loop-from in
     let a = c.args in
-    sym (stored_end _ _ _ _ _ (omega arith)) ∙ (rw (part_slice a.book.now a.i a.n) at l.invariant.3)
+    sym (stored_end _ _ _ _ _ (omega arith)) ∙ (rw (part_slice a.book.now a.i a.n) at c.loop-from.invariant.3)

@@ -31,15 +31,13 @@ first_bad-bad-requires c = let y = ends c in (omega arith, omega arith, omega ar
 
 pub put_denial-requires : goal.put_denial-requires
 put_denial-requires c =
-    let l = c.loop-i in
-    omega (arith, ends c, two c, l.invariant.1, l.invariant.3, c.requires.3)
+    omega (arith, ends c, two c, c.loop-i.invariant.1, c.loop-i.invariant.3, c.requires.3)
 
 pub put_replacement-requires : goal.put_replacement-requires
 put_replacement-requires c =
-    let l = c.loop-i in
     let y = ends c in
     let z = two c in
-    (omega (arith, l.invariant.2, l.invariant.4, c.requires.4), omega (arith, c.requires.2), omega (arith, c.requires.2))
+    (omega (arith, c.loop-i.invariant.2, c.loop-i.invariant.4, c.requires.4), omega (arith, c.requires.2), omega (arith, c.requires.2))
 
 pub loop-i-smaller-then-bad-next : goal.loop-i-smaller-then-bad-next
 loop-i-smaller-then-bad-next c =
@@ -82,6 +80,5 @@ loop-i-preserved c =
 
 pub returns : goal.returns
 returns c =
-    let l = c.loop-i in
-    let z = mending_last l.invariant.5 c.loop-i-test.false in
+    let z = mending_last c.loop-i.invariant.5 c.loop-i-test.false in
     (z.0, z.1, z.2, z.3, omega arith, omega arith)

@@ -15,16 +15,15 @@ loop-j-init c =
 
 pub loop-j-preserved : goal.loop-j-preserved
 loop-j-preserved c =
-    let l = c.loop-j in
     let a = c.args in
-    let inside : l.j < end_of a.book.now a.i = omega (arith, c.loop-j-test.true, c.requires.2) in (
+    let inside : c.loop-j.j < end_of a.book.now a.i = omega (arith, c.loop-j-test.true, c.requires.2) in (
       omega arith,
       omega arith,
       omega (arith, c.one-children.ensures.1),
       omega (arith, c.one-operands.ensures.1),
-      child_more _ l.invariant.0 inside l.invariant.6 l.invariant.4 c.one-children.ensures.0,
-      operand_more _ l.invariant.0 inside l.invariant.6 _ l.invariant.5 c.value_type.ensures c.both_hold-operand.ensures c.one-operands.ensures.0,
-      reach_more _ l.invariant.0 l.invariant.6 c.span.ensures.0 c.farther-reach.ensures,
+      child_more _ c.loop-j.invariant.0 inside c.loop-j.invariant.6 c.loop-j.invariant.4 c.one-children.ensures.0,
+      operand_more _ c.loop-j.invariant.0 inside c.loop-j.invariant.6 _ c.loop-j.invariant.5 c.value_type.ensures c.both_hold-operand.ensures c.one-operands.ensures.0,
+      reach_more _ c.loop-j.invariant.0 c.loop-j.invariant.6 c.span.ensures.0 c.farther-reach.ensures,
     )
 
 pub returns-then-children-ne2 : goal.returns-then-children-ne2

@@ -22,7 +22,7 @@ walk-passed t c =
     passed _ turn.before.loop.invariant.3 turn.loop-test.true spanned.before.before.kind_at.ensures spanned.before.byte.ensures.0 spanned.span.ensures.0 c.before.before.before.stands.ensures c.before.before.allowed.ensures c.before.child-rule.ensures c.if1.false
 
 pub loop-i-init : goal.loop-i-init
-loop-i-init t c = (omega arith, omega arith, omega arith, c.requires.1.3, refl)
+loop-i-init t c = (omega arith, omega arith, omega arith, c.requires.3, refl)
 
 pub allowed-ok-requires : goal.allowed-ok-requires
 allowed-ok-requires t c =

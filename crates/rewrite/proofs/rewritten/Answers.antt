@@ -46,8 +46,7 @@ shape_of-out-in-Places-write_book c = search rules
 
 pub returns-in-Places-write_book : goal.returns-in-Places-write_book
 returns-in-Places-write_book c =
-    let bytes = c.shared_slice_known-1 in
-    (omega (arith, write_fits _ _ _ c.write_book.ensures.0 c.in-Places-write_book.is), printed_again c.args.text.now _ _ _ (λ i. (bytes.given i).fits) c.requires.1 c.read_book.ensures.0 c.read_book.ensures.1 c.in-Places.is c.write_book.ensures.0 _ c.requires.0 c.write_book.ensures.1 c.in-Places-write_book.is)
+    (omega (arith, write_fits _ _ _ c.write_book.ensures.0 c.in-Places-write_book.is), printed_again c.args.text.now _ _ _ (λ i. (c.shared_slice_known-1.given i).fits) c.requires.1 c.read_book.ensures.0 c.read_book.ensures.1 c.in-Places.is c.write_book.ensures.0 _ c.requires.0 c.write_book.ensures.1 c.in-Places-write_book.is)
 
 pub shape_of-records-in-Refused-write_book : goal.shape_of-records-in-Refused-write_book
 shape_of-records-in-Refused-write_book c = search rules
@@ -57,8 +56,7 @@ shape_of-out-in-Refused-write_book c = search rules
 
 pub returns-in-Refused-write_book : goal.returns-in-Refused-write_book
 returns-in-Refused-write_book c =
-    let bytes = c.shared_slice_known-1 in
-    absurd (never_refused c.args.text.now _ c.args.out.now _ (λ i. (bytes.given i).fits) c.requires.1 c.read_book.ensures.0 c.read_book.ensures.1 c.in-Places.is c.write_book.ensures.0 _ c.in-Refused-write_book.is)
+    absurd (never_refused c.args.text.now _ c.args.out.now _ (λ i. (c.shared_slice_known-1.given i).fits) c.requires.1 c.read_book.ensures.0 c.read_book.ensures.1 c.in-Places.is c.write_book.ensures.0 _ c.in-Refused-write_book.is)
 
 pub shape_of-records-in-Refused : goal.shape_of-records-in-Refused
 shape_of-records-in-Refused c = search rules

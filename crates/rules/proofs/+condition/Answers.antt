@@ -24,7 +24,7 @@ returns-then-s-eq1 t c = not_none _ _ _ _ c.byte-choice.ensures.0 c.if-choice-eq
 
 pub returns-then-choice-eq3 : goal.returns-then-choice-eq3
 returns-then-choice-eq3 t c =
-    not_more _ _ _ _ c.byte-choice.ensures.0 c.if-choice-eq3.true c.requires.1.0 c.if-s-eq1.false c.span_in-part.ensures.0 c.condition.ensures c.not3.ensures
+    not_more _ _ _ _ c.byte-choice.ensures.0 c.if-choice-eq3.true c.requires.0 c.if-s-eq1.false c.span_in-part.ensures.0 c.condition.ensures c.not3.ensures
 
 pub loop-left-init : goal.loop-left-init
 loop-left-init t c = (omega arith, omega arith, join_none _ _ c.joined_none-acc.ensures ∙ is_joined _ _ _ _ c.byte-choice.ensures.0 c.if-choice-eq0.false c.if-choice-gt3.false c.if-choice-eq3.false)

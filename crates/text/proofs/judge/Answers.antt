@@ -14,7 +14,7 @@ pub loop-n-init : goal.loop-n-init
 loop-n-init c = (search rules, sym (start_none _), search rules, rw sub-zero)
 
 pub returns-then-text-at : goal.returns-then-text-at
-returns-then-text-at c = let l = c.loop-n in sym (l.invariant.3 ∙ judge_end _ _ _ _ l.invariant.1 c.if-text-at.true)
+returns-then-text-at c = sym (c.loop-n.invariant.3 ∙ judge_end _ _ _ _ c.loop-n.invariant.1 c.if-text-at.true)
 
 pub good_line-requires : goal.good_line-requires
 good_line-requires c = search rules
@@ -24,9 +24,8 @@ overflow_add-line c = search rules
 
 pub returns-then-not-good_line : goal.returns-then-not-good_line
 returns-then-not-good_line c =
-    let l = c.loop-n in
     let most = c.args.most in
-    sym (l.invariant.3 ∙ judge_wrong _ _ (most - l.n) (most - (l.n + 1)) l.n (omega arith) l.invariant.1 (search rules) (sym c.good_line.ensures ∙ not-true _ c.if-not-good_line.true-raw))
+    sym (c.loop-n.invariant.3 ∙ judge_wrong _ _ (most - c.loop-n.n) (most - (c.loop-n.n + 1)) c.loop-n.n (omega arith) c.loop-n.invariant.1 (search rules) (sym c.good_line.ensures ∙ not-true _ c.if-not-good_line.true-raw))
 
 pub overflow_add-n : goal.overflow_add-n
 overflow_add-n c = search rules
@@ -45,21 +44,19 @@ loop-n-smaller c = search rules
 
 pub loop-n-preserved : goal.loop-n-preserved
 loop-n-preserved c =
-    let l = c.loop-n in
     let a = c.args in
     let g = sym c.good_line.ensures ∙ not-false _ c.if-not-good_line.false-raw in
     let fit = good_within _ _ _ g in (
       search rules,
-      omega (arith, start_more a.w l.n, l.invariant.1),
+      omega (arith, start_more a.w c.loop-n.n, c.loop-n.invariant.1),
       omega (arith, fit),
-      l.invariant.3 ∙ judge_more _ _ (a.most - l.n) (a.most - (l.n + 1)) l.n (omega arith) l.invariant.1 (search rules) g,
+      c.loop-n.invariant.3 ∙ judge_more _ _ (a.most - c.loop-n.n) (a.most - (c.loop-n.n + 1)) c.loop-n.n (omega arith) c.loop-n.invariant.1 (search rules) g,
     )
 
 pub returns-then-text-at-2 : goal.returns-then-text-at-2
-returns-then-text-at-2 c = let l = c.loop-n in sym (l.invariant.3 ∙ judge_end _ _ _ _ l.invariant.1 c.if-text-at-2.true)
+returns-then-text-at-2 c = sym (c.loop-n.invariant.3 ∙ judge_end _ _ _ _ c.loop-n.invariant.1 c.if-text-at-2.true)
 
 pub returns : goal.returns
 returns c =
-    let l = c.loop-n in
-    let e : c.args.most - l.n ≡ 0 = omega arith in
-    sym (rw e at l.invariant.3 ∙ judge_over _ _ l.n l.invariant.1 c.if-text-at-2.false)
+    let e : c.args.most - c.loop-n.n ≡ 0 = omega arith in
+    sym (rw e at c.loop-n.invariant.3 ∙ judge_over _ _ c.loop-n.n c.loop-n.invariant.1 c.if-text-at-2.false)

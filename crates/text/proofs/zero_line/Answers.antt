@@ -13,4 +13,4 @@ loop-i-preserved c =
     (search rules, search rules, lit_more _ _ _ _ c.loop-i.invariant.2 c.loop-i.invariant.0 c.loop-i-test.true c.requires.1 c.legible.ensures)
 
 pub returns : goal.returns
-returns c = let l = c.loop-i in lit_done _ _ _ _ l.invariant.2 l.invariant.0 (omega arith)
+returns c = lit_done _ _ _ _ c.loop-i.invariant.2 c.loop-i.invariant.0 (omega arith)

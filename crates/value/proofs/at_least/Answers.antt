@@ -8,17 +8,13 @@ use Rattle.value.proofs.at_least.Goals as goal
 
 pub returns-in-Integer-b : goal.returns-in-Integer-b
 returns-in-Integer-b c =
-    let a = c.a-1 in
-    let b = c.b-1 in
-    let x : to_z w64 (of_z w64 a.given.0.0) ≡ a.given.0.0 = search rules in
-    let y : to_z w64 (of_z w64 b.given.0.0) ≡ b.given.0.0 = search rules in
-    rw (a.given.1, b.given.1, x, y) (at_least_whole a.given.0.0 b.given.0.0)
+    let x : to_z w64 (of_z w64 c.in-Integer.x) ≡ c.in-Integer.x = search rules in
+    let y : to_z w64 (of_z w64 c.in-Integer-b.y) ≡ c.in-Integer-b.y = search rules in
+    rw (c.in-Integer.is, c.in-Integer-b.is, x, y) (at_least_whole c.in-Integer.x c.in-Integer-b.y)
 
 pub returns-in-Name-b-2 : goal.returns-in-Name-b-2
 returns-in-Name-b-2 c = rw (c.in-Name.is, c.in-Name-b-2.is)
 
 pub returns-in-Double-b-3 : goal.returns-in-Double-b-3
 returns-in-Double-b-3 c =
-    let a = c.a-in-Double-a-1 in
-    let b = c.b-in-Double-1 in
-    rw (a.given.1, b.given.1) (at_least_double a.given.0.0 b.given.0.0)
+    rw (c.in-Double.is, c.in-Double-b-3.is) (at_least_double c.in-Double.x c.in-Double-b-3.y)

@@ -5,9 +5,7 @@ use Rattle.value.proofs.equal.Goals as goal
 
 pub returns-in-Integer-b : goal.returns-in-Integer-b
 returns-in-Integer-b c =
-    let a = c.a-1 in
-    let b = c.b-1 in
-    rw (a.given.1, b.given.1) (eq_bits a.given.0.0 b.given.0.0 (search rules) (search rules))
+    rw (c.in-Integer.is, c.in-Integer-b.is) (eq_bits c.in-Integer.x c.in-Integer-b.y (search rules) (search rules))
 
 pub returns-in-Name-b-2 : goal.returns-in-Name-b-2
 returns-in-Name-b-2 c = rw (c.in-Name.is, c.in-Name-b-2.is)

@@ -11,7 +11,7 @@ pub returns-then-choice-eq1 : goal.returns-then-choice-eq1
 returns-then-choice-eq1 t c = literal_is _ _ _ _ c.byte-choice.ensures.0 c.if-choice-eq1.true c.big8-literal.ensures c.big8-literal.type-inv
 
 pub returns-then-second-stop : goal.returns-then-second-stop
-returns-then-second-stop t c = without_operands _ _ _ _ c.requires.1.0 c.byte-choice.ensures.0 c.if-choice-eq1.false c.if-choice-eq2.false c.second_in-second.ensures.0 c.big8-literal.ensures c.big8-literal.type-inv c.if-second-stop.true
+returns-then-second-stop t c = without_operands _ _ _ _ c.requires.0 c.byte-choice.ensures.0 c.if-choice-eq1.false c.if-choice-eq2.false c.second_in-second.ensures.0 c.big8-literal.ensures c.big8-literal.type-inv c.if-second-stop.true
 
 pub worth_at-a-requires : goal.worth_at-a-requires
 worth_at-a-requires t c =
@@ -21,4 +21,4 @@ worth_at-a-requires t c =
 
 pub returns : goal.returns
 returns t c =
-    with_operands _ _ _ _ c.requires.1.0 c.byte-choice.ensures.0 c.if-choice-eq1.false c.if-choice-eq2.false c.second_in-second.ensures.0 c.if-second-stop.false c.second_in-second.ensures.2 c.span_in.ensures.0 c.worth_at-a.ensures c.worth_at-b.ensures c.operator_of.ensures c.operated.ensures
+    with_operands _ _ _ _ c.requires.0 c.byte-choice.ensures.0 c.if-choice-eq1.false c.if-choice-eq2.false c.second_in-second.ensures.0 c.if-second-stop.false c.second_in-second.ensures.2 c.span_in.ensures.0 c.worth_at-a.ensures c.worth_at-b.ensures c.operator_of.ensures c.operated.ensures

@@ -18,7 +18,6 @@ shape_of-out c = c.loop-k.invariant.2.long
 
 pub returns : goal.returns
 returns c =
-    let loop = c.loop-k in
     let args = c.args in
     let pre = c.requires in
-    shift_done args.out.now loop.out args.at args.m args.e loop.k pre.1 pre.2 (omega arith) loop.invariant.2
+    shift_done args.out.now c.loop-k.out args.at args.m args.e c.loop-k.k pre.1 pre.2 (omega arith) c.loop-k.invariant.2

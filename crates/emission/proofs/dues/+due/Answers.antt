@@ -8,7 +8,7 @@ use Rattle.meaning.specs.Reading.{effect_of}
 use Rattle.emission.proofs.dues.+due.Goals as goal
 
 pub loop-at-init : goal.loop-at-init
-loop-at-init t c = count_begin _ _ _ _ _ c.requires.1.0
+loop-at-init t c = count_begin _ _ _ _ _ c.requires.0
 
 pub loop-at-preserved-then-effect_code : goal.loop-at-preserved-then-effect_code
 loop-at-preserved-then-effect_code t c =

@@ -8,7 +8,7 @@ use Rattle.emission.proofs.values.+expr_operands.Goals as goal
 
 pub expr-attribute-requires : goal.expr-attribute-requires
 expr-attribute-requires t c =
-    (search rules, fits_as _ (expr_attribute _ _ c.byte-choice.ensures.0 _ c.if-choice-eq2.true) c.requires.1.2)
+    (search rules, fits_as _ (expr_attribute _ _ c.byte-choice.ensures.0 _ c.if-choice-eq2.true) c.requires.2)
 
 pub expr-returns-then-choice-eq2 : goal.expr-returns-then-choice-eq2
 expr-returns-then-choice-eq2 t c =
@@ -16,7 +16,7 @@ expr-returns-then-choice-eq2 t c =
 
 pub expr-literal-requires : goal.expr-literal-requires
 expr-literal-requires t c =
-    (search rules, c.type_at-kind.ensures.1, fits_as _ (expr_literal _ _ c.byte-choice.ensures.0 _ c.type_at-kind.ensures.0 _ c.if-choice-eq1.true) c.requires.1.2)
+    (search rules, c.type_at-kind.ensures.1, fits_as _ (expr_literal _ _ c.byte-choice.ensures.0 _ c.type_at-kind.ensures.0 _ c.if-choice-eq1.true) c.requires.2)
 
 pub expr-returns-then-choice-eq1 : goal.expr-returns-then-choice-eq1
 expr-returns-then-choice-eq1 t c =
@@ -24,35 +24,35 @@ expr-returns-then-choice-eq1 t c =
 
 pub expr-literal-requires-then-second-stop : goal.expr-literal-requires-then-second-stop
 expr-literal-requires-then-second-stop t c =
-    (search rules, c.type_at-kind.ensures.1, fits_as _ (expr_spare _ _ c.byte-choice.ensures.0 _ c.type_at-kind.ensures.0 _ c.requires.1.0 c.if-choice-eq1.false c.if-choice-eq2.false (same_as c.second_in-second.ensures.0 c.if-second-stop.true)) c.requires.1.2)
+    (search rules, c.type_at-kind.ensures.1, fits_as _ (expr_spare _ _ c.byte-choice.ensures.0 _ c.type_at-kind.ensures.0 _ c.requires.0 c.if-choice-eq1.false c.if-choice-eq2.false (same_as c.second_in-second.ensures.0 c.if-second-stop.true)) c.requires.2)
 
 pub expr-returns-then-second-stop : goal.expr-returns-then-second-stop
 expr-returns-then-second-stop t c =
-    as_is (expr_spare _ _ c.byte-choice.ensures.0 _ c.type_at-kind.ensures.0 _ c.requires.1.0 c.if-choice-eq1.false c.if-choice-eq2.false (same_as c.second_in-second.ensures.0 c.if-second-stop.true)) c.literal-then-second-stop.ensures
+    as_is (expr_spare _ _ c.byte-choice.ensures.0 _ c.type_at-kind.ensures.0 _ c.requires.0 c.if-choice-eq1.false c.if-choice-eq2.false (same_as c.second_in-second.ensures.0 c.if-second-stop.true)) c.literal-then-second-stop.ensures
 
 pub expr-piece-foot-requires : goal.expr-piece-foot-requires
 expr-piece-foot-requires t c =
-    (behind_fits _ (expr_parts _ _ c.byte-choice.ensures.0 _ c.requires.1.0 c.if-choice-eq1.false c.if-choice-eq2.false c.second_in-second.ensures.0 (before_stop c.second_in-second.ensures.2 c.if-second-stop.false)) c.requires.1.2, search rules, search rules)
+    (behind_fits _ (expr_parts _ _ c.byte-choice.ensures.0 _ c.requires.0 c.if-choice-eq1.false c.if-choice-eq2.false c.second_in-second.ensures.0 (before_stop c.second_in-second.ensures.2 c.if-second-stop.false)) c.requires.2, search rules, search rules)
 
 pub expr-operands-requires : goal.expr-operands-requires
 expr-operands-requires t c =
     let short = before_stop c.second_in-second.ensures.2 c.if-second-stop.false in
-    (search rules, (c.requires.1.0, c.requires.1.1, c.second_in-second.ensures.0, short, before_fits (expr_parts _ _ c.byte-choice.ensures.0 _ c.requires.1.0 c.if-choice-eq1.false c.if-choice-eq2.false c.second_in-second.ensures.0 short) c.requires.1.2 (worked c.operator_of-op.ensures c.operator_code.ensures.0 c.piece-foot.ensures)))
+    (search rules, (c.requires.0, c.requires.1, c.second_in-second.ensures.0, short, before_fits (expr_parts _ _ c.byte-choice.ensures.0 _ c.requires.0 c.if-choice-eq1.false c.if-choice-eq2.false c.second_in-second.ensures.0 short) c.requires.2 (worked c.operator_of-op.ensures c.operator_code.ensures.0 c.piece-foot.ensures)))
 
 pub expr-returns : goal.expr-returns
 expr-returns t c =
-    follows (expr_parts _ _ c.byte-choice.ensures.0 _ c.requires.1.0 c.if-choice-eq1.false c.if-choice-eq2.false c.second_in-second.ensures.0 (before_stop c.second_in-second.ensures.2 c.if-second-stop.false)) (worked c.operator_of-op.ensures c.operator_code.ensures.0 c.piece-foot.ensures) c.operands.ensures
+    follows (expr_parts _ _ c.byte-choice.ensures.0 _ c.requires.0 c.if-choice-eq1.false c.if-choice-eq2.false c.second_in-second.ensures.0 (before_stop c.second_in-second.ensures.2 c.if-second-stop.false)) (worked c.operator_of-op.ensures c.operator_code.ensures.0 c.piece-foot.ensures) c.operands.ensures
 
 pub operands-expr-mid-requires : goal.operands-expr-mid-requires
 operands-expr-mid-requires t c =
-    let n = second_behind _ _ _ c.requires.1.2 c.requires.1.3 in
-    (omega (arith, n, c.requires.0, c.requires.1.3, c.span_in.ensures.1), (omega (arith, c.span_in.ensures.1), omega (arith, c.requires.1.1, c.requires.1.3, c.span_in.ensures.1), behind_fits _ (operands_parts _ _ _ c.requires.1.0 c.requires.1.2 c.requires.1.3 c.span_in.ensures.0) c.requires.1.4))
+    let n = second_behind _ _ _ c.requires.2 c.requires.3 in
+    (omega (arith, n, c.requires.0, c.requires.3, c.span_in.ensures.1), (omega (arith, c.span_in.ensures.1), omega (arith, c.requires.1, c.requires.3, c.span_in.ensures.1), behind_fits _ (operands_parts _ _ _ c.requires.0 c.requires.2 c.requires.3 c.span_in.ensures.0) c.requires.4))
 
 pub operands-expr-requires : goal.operands-expr-requires
 operands-expr-requires t c =
-    let n = second_behind _ _ _ c.requires.1.2 c.requires.1.3 in
-    (omega (arith, n, c.requires.0, c.requires.1.3), (n, omega (arith, c.requires.1.1, c.requires.1.3), before_fits (operands_parts _ _ _ c.requires.1.0 c.requires.1.2 c.requires.1.3 c.span_in.ensures.0) c.requires.1.4 c.expr-mid.ensures))
+    let n = second_behind _ _ _ c.requires.2 c.requires.3 in
+    (omega (arith, n, c.requires.0, c.requires.3), (n, omega (arith, c.requires.1, c.requires.3), before_fits (operands_parts _ _ _ c.requires.0 c.requires.2 c.requires.3 c.span_in.ensures.0) c.requires.4 c.expr-mid.ensures))
 
 pub operands-returns : goal.operands-returns
 operands-returns t c =
-    follows (operands_parts _ _ _ c.requires.1.0 c.requires.1.2 c.requires.1.3 c.span_in.ensures.0) c.expr-mid.ensures c.expr.ensures
+    follows (operands_parts _ _ _ c.requires.0 c.requires.2 c.requires.3 c.span_in.ensures.0) c.expr-mid.ensures c.expr.ensures

@@ -8,4 +8,4 @@ pub phrase-requires-2 : goal.phrase-requires-2
 phrase-requires-2 t c =
     let first = c.covered-n.ensures.1 in
     let second = c.covered-m.ensures.1 in
-    (omega (arith, c.requires.0, c.if-s-eq0.false, first, second), (omega (arith, c.requires.1.0, c.if-s-eq0.false, first, second), c.between-second.ensures))
+    (omega (arith, c.requires.0, c.if-s-eq0.false, first, second), (omega (arith, c.requires.0, c.if-s-eq0.false, first, second), c.between-second.ensures))

@@ -36,8 +36,7 @@ overflow_sub-digit-in-loop-i c = search rules
 pub returns-then-digit-n : goal.returns-then-digit-n
 returns-then-digit-n c =
     let args = c.args in
-    let loop = c.loop-i in
-    budget_large _ loop.i (search rules) (omega (arith, decimal_more args.word.now loop.i, loop.invariant.3, c.if-digit-n.true))
+    budget_large _ c.loop-i.i (search rules) (omega (arith, decimal_more args.word.now c.loop-i.i, c.loop-i.invariant.3, c.if-digit-n.true))
 
 pub overflow_mul-n : goal.overflow_mul-n
 overflow_mul-n c = search rules
@@ -54,10 +53,7 @@ loop-i-smaller c = search rules
 pub loop-i-preserved : goal.loop-i-preserved
 loop-i-preserved c =
     let args = c.args in
-    let loop = c.loop-i in
-    let if2 = c.if-c-lt48 in
-    let if3 = c.if-c-gt57 in
-    (search rules, search rules, all_more (is_decimal args.word.now) loop.i loop.invariant.2 (in_among 48 57 _ if2.false if3.false), omega (arith, decimal_more args.word.now loop.i, loop.invariant.3), search rules)
+    (search rules, search rules, all_more (is_decimal args.word.now) c.loop-i.i c.loop-i.invariant.2 (in_among 48 57 _ c.if-c-lt48.false c.if-c-gt57.false), omega (arith, decimal_more args.word.now c.loop-i.i, c.loop-i.invariant.3), search rules)
 
 pub returns : goal.returns
 returns c = budget_done _ c.loop-i.i c.loop-i.invariant.0 (omega arith) c.loop-i.invariant.2 c.loop-i.invariant.3 c.loop-i.invariant.4
