@@ -4,43 +4,10 @@ use Rattle.meaning.specs.Numbers.{number_of}
 use Rattle.decide.proofs.Laws.{decided_stands, decided_refused, refusal_stands}
 use Rattle.decide.proofs.outcome_line.Goals as goal
 
-pub decide-requires : goal.decide-requires
-decide-requires c = search rules
-
-pub enum_known-verdict : goal.enum_known-verdict
-enum_known-verdict c = search rules
-
-pub decision_in-requires : goal.decision_in-requires
-decision_in-requires c = search rules
-
-pub number-requires : goal.number-requires
-number-requires c = search rules
-
-pub decision_line-requires : goal.decision_line-requires
-decision_line-requires c = search rules
-
-pub enum_known-refusal : goal.enum_known-refusal
-enum_known-refusal c = search rules
-
-pub refusal_line-requires : goal.refusal_line-requires
-refusal_line-requires c = search rules
-
-pub shape_of-places-in-Decided : goal.shape_of-places-in-Decided
-shape_of-places-in-Decided c = search rules
-
-pub shape_of-out-in-Decided : goal.shape_of-out-in-Decided
-shape_of-out-in-Decided c = search rules
-
 pub returns-in-Decided : goal.returns-in-Decided
 returns-in-Decided c =
     let a = c.args in
     decided_stands a.book.now a.request.now a.places.now c.requires.0 c.decide.ensures.0 c.decide.ensures.1 _ _ a.out.now c.in-Decided.is (c.number.ensures.0 ∙ ap number_of c.decision_in.ensures) c.decide.auto.out c.requires.1 c.decision_line.ensures.0 c.decision_line.ensures.1
-
-pub shape_of-places-in-Refused : goal.shape_of-places-in-Refused
-shape_of-places-in-Refused c = search rules
-
-pub shape_of-out-in-Refused : goal.shape_of-out-in-Refused
-shape_of-out-in-Refused c = search rules
 
 pub returns-in-Refused : goal.returns-in-Refused
 returns-in-Refused c =

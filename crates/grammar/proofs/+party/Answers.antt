@@ -12,20 +12,8 @@ use borrow.Author.Rules.{rules}
 use Prim.Native.Nat.{ℕ, ◌<◌}
 use Rattle.grammar.proofs.+party.Goals as goal
 
-pub span-requires : goal.span-requires
-span-requires t c = search rules
-
-pub overflow_add-next : goal.overflow_add-next
-overflow_add-next t c = search rules
-
 pub returns-then-top-next : goal.returns-then-top-next
 returns-then-top-next t c = (omega arith, λ z. absurd (omega arith))
-
-pub is_policy-requires : goal.is_policy-requires
-is_policy-requires t c = search rules
-
-pub overflow_add-i : goal.overflow_add-i
-overflow_add-i t c = search rules
 
 pub policy_parts-requires : goal.policy_parts-requires
 policy_parts-requires t c = let s = fit_span _ _ (fits c.is_policy.ensures c.if-is_policy.true) in (omega (arith, s, c.span.ensures.0), omega arith, omega arith)
@@ -33,14 +21,8 @@ policy_parts-requires t c = let s = fit_span _ _ (fits c.is_policy.ensures c.if-
 pub returns-then-is_policy : goal.returns-then-is_policy
 returns-then-is_policy t c = (omega arith, λ z. party_is _ Policy (fits c.is_policy.ensures c.if-is_policy.true) (inr refl) (omega (arith, c.span.ensures.0)) (omega arith) (λ gc pc. c.policy_parts.ensures.1 z gc pc))
 
-pub is_set-requires : goal.is_set-requires
-is_set-requires t c = search rules
-
 pub returns-then-not-is_set : goal.returns-then-not-is_set
 returns-then-not-is_set t c = (omega arith, λ z. absurd (omega arith))
-
-pub overflow_add-i-2 : goal.overflow_add-i-2
-overflow_add-i-2 t c = search rules
 
 pub section_row-at-requires : goal.section_row-at-requires
 section_row-at-requires t c = let s = fit_span _ _ (fits c.is_set.ensures (not-false _ c.if-not-is_set.false-raw)) in (omega (arith, s, c.span.ensures.0), omega arith, omega arith)
@@ -50,9 +32,6 @@ returns-then-at-eq0 t c = (omega arith, λ z. absurd (omega arith))
 
 pub loop-at-init : goal.loop-at-init
 loop-at-init t c = let s = c.section_row-at.ensures (omega arith) in (omega (arith, s.1), omega (arith, s.0), omega arith, λ gc pc. row_then _ (s.2 1 gc pc refl) (row_none _ refl (omega arith)))
-
-pub byte-requires : goal.byte-requires
-byte-requires t c = search rules
 
 pub own-requires : goal.own-requires
 own-requires t c = (omega arith, omega arith, omega arith, omega arith)
@@ -64,35 +43,17 @@ returns-then-byte-gt2 t c =
 pub returns-then-depth-ge-MOST_DEPTH : goal.returns-then-depth-ge-MOST_DEPTH
 returns-then-depth-ge-MOST_DEPTH t c = (omega arith, λ z. absurd (omega arith))
 
-pub overflow_add-depth : goal.overflow_add-depth
-overflow_add-depth t c = search rules
-
 pub party-below-requires : goal.party-below-requires
 party-below-requires t c = (omega arith, (omega arith, omega arith, omega arith))
 
 pub returns-then-below-eq0 : goal.returns-then-below-eq0
 returns-then-below-eq0 t c = (omega arith, λ z. absurd (omega arith))
 
-pub overflow_sub-due : goal.overflow_sub-due
-overflow_sub-due t c = search rules
-
-pub overflow_add-due : goal.overflow_add-due
-overflow_add-due t c = search rules
-
-pub span-at-requires : goal.span-at-requires
-span-at-requires t c = search rules
-
-pub overflow_add-at : goal.overflow_add-at
-overflow_add-at t c = search rules
-
 pub loop-at-smaller : goal.loop-at-smaller
 loop-at-smaller t c = let p = party_next _ _ c.loop-at.invariant.3 (c.party-below.ensures.1 (omega arith)) (omega arith) c.span-at.ensures.0 in omega (arith, p.0, p.1)
 
 pub loop-at-preserved : goal.loop-at-preserved
 loop-at-preserved t c = let p = party_next _ _ c.loop-at.invariant.3 (c.party-below.ensures.1 (omega arith)) (omega arith) c.span-at.ensures.0 in (p.0, omega (arith, p.1), p.2, p.3)
-
-pub overflow_add-result : goal.overflow_add-result
-overflow_add-result t c = search rules
 
 pub returns : goal.returns
 returns t c =

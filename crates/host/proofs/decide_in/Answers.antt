@@ -8,33 +8,22 @@ use Rattle.decider.proofs.Whole.{refused_line}
 use borrow.Author.Rules.{rules}
 use Rattle.host.proofs.decide_in.Goals as goal
 
--- the obligations of a decision fit the places, the output and a book
-fits : (decision : tie.After-v) →
-    let outcome = decision.before.before.before.before in
-    let count = decision.v.given.0.1.0 in
-    (count ≤ length outcome.decide.new.1.1.0) × (count * 2 ≤ length outcome.before.before.before.before.before.before.args.out.now) × (count ≤ most_records)
-fits decision =
-    let outcome = decision.before.before.before.before in
-    let start = outcome.before.before.before.before.before.before in
-    let a = start.args in
-    host_fits a.book.now a.request.now a.places.now a.out.now start.requires outcome.decide.ensures.0 decision.v.given.1 outcome.decide.ensures.1 outcome.decide.auto.1.1.0
-
 pub refusal_number-requires : goal.refusal_number-requires
 refusal_number-requires c = refused_line _ _ _ (sym c.decide.ensures.0 ∙ c.in-Refused.is)
 
 pub put_pairs-requires : goal.put_pairs-requires
-put_pairs-requires c = let w = fits c in (w.0, w.1)
+put_pairs-requires c = let w = host_fits c.args.book.now c.args.request.now c.args.places.now c.args.out.now c.requires c.decide.ensures.0 c.in-Decided.is c.decide.ensures.1 c.decide.auto.out in (w.0, w.1)
 
 pub overflow_mul-n : goal.overflow_mul-n
-overflow_mul-n c = omega (arith, (fits c).2)
+overflow_mul-n c = omega (arith, (host_fits c.args.book.now c.args.request.now c.args.places.now c.args.out.now c.requires c.decide.ensures.0 c.in-Decided.is c.decide.ensures.1 c.decide.auto.out).2)
 
 pub clear-requires : goal.clear-requires
 clear-requires c =
-    omega (arith, (fits c).1, c.put_pairs.auto.out)
+    omega (arith, (host_fits c.args.book.now c.args.request.now c.args.places.now c.args.out.now c.requires c.decide.ensures.0 c.in-Decided.is c.decide.ensures.1 c.decide.auto.out).1, c.put_pairs.auto.out)
 
 pub decided-requires : goal.decided-requires
 decided-requires c =
-    (fits c).2
+    (host_fits c.args.book.now c.args.request.now c.args.places.now c.args.out.now c.requires c.decide.ensures.0 c.in-Decided.is c.decide.ensures.1 c.decide.auto.out).2
 
 pub returns-in-Refused : goal.returns-in-Refused
 returns-in-Refused c =

@@ -9,31 +9,10 @@ returns-then-out-lt7 c =
     let args = c.args in
     (places_short _ _ (omega (arith, length_decision args.decision args.obligations.now)), put_short _ _ (omega (arith, length_decision args.decision args.obligations.now)))
 
-pub overflow_sub-out : goal.overflow_sub-out
-overflow_sub-out c = search rules
-
 pub returns-then-out-count : goal.returns-then-out-count
 returns-then-out-count c =
     let args = c.args in
     (places_short _ _ (omega (arith, length_decision args.decision args.obligations.now)), put_short _ _ (omega (arith, length_decision args.decision args.obligations.now)))
-
-pub two_digits-requires : goal.two_digits-requires
-two_digits-requires c = search rules
-
-pub four_digits-requires : goal.four_digits-requires
-four_digits-requires c = search rules
-
-pub put_obligations-requires : goal.put_obligations-requires
-put_obligations-requires c = search rules
-
-pub overflow_mul-result : goal.overflow_mul-result
-overflow_mul-result c = search rules
-
-pub overflow_add-result : goal.overflow_add-result
-overflow_add-result c = search rules
-
-pub shape_of-out : goal.shape_of-out
-shape_of-out c = search rules
 
 pub returns : goal.returns
 returns c =

@@ -10,27 +10,6 @@ returns-then-out-lt11 c =
     let args = c.args in
     (places_short _ _ (omega (arith, length_refusal args.refusal)), put_short _ _ (omega (arith, length_refusal args.refusal)))
 
-pub two_digits-requires : goal.two_digits-requires
-two_digits-requires c = search rules
-
-pub overflow_cast-refusal : goal.overflow_cast-refusal
-overflow_cast-refusal c = search rules
-
-pub two_digits-requires-2 : goal.two_digits-requires-2
-two_digits-requires-2 c = search rules
-
-pub overflow_cast-refusal-2 : goal.overflow_cast-refusal-2
-overflow_cast-refusal-2 c = search rules
-
-pub two_digits-requires-3 : goal.two_digits-requires-3
-two_digits-requires-3 c = search rules
-
-pub four_digits-requires : goal.four_digits-requires
-four_digits-requires c = search rules
-
-pub bounds-out-10 : goal.bounds-out-10
-bounds-out-10 c = search rules
-
 pub shape_of-out : goal.shape_of-out
 shape_of-out c =
     simp length-set (omega (arith, c.four_digits.auto.out, c.two_digits.auto.out, c.two_digits-2.auto.out, c.two_digits-3.auto.out))

@@ -1,53 +1,48 @@
-use Prim.Native.Nat.{◌≤◌, ◌<◌, ◌+◌, ◌-◌, ◌*◌}
+use Prim.Native.Nat.{ℕ, ◌≤◌, ◌<◌, ◌+◌, ◌-◌, ◌*◌}
 use mathlib.Core.Path.{◌≡◌, refl, ◌∙◌}
 use native.Mathlib.Omega.{arith}
 use lib.ListN.{length}
+use mathlib.Core.List.{List}
+use Rattle.record.specs.Bytes.{span_of}
 use borrow.Author.Rules.{rules}
 use Rattle.mending.proofs.Mending.{Mending, mending_first, mending_kept, two_at_least, mending_new, mending_same, mending_last}
 use Rattle.mending.proofs.mend.Goals as goal
 
--- the record of this turn ends behind itself and within line 1
-ends : (c : tie.After-span invariant-loop decreases-loop) →
-    let turn = c.before.before.before.before in
-    (turn.before.loop.i < turn.before.loop.i + c.span.result) × (turn.before.loop.i + c.span.result ≤ turn.before.before.before.before.before.args.n)
-ends c =
-    let turn = c.before.before.before.before in
-    let h = mending_kept turn.before.loop.invariant.5 turn.loop-test.true in
-    (omega (arith, h.some, c.span.ensures.0), omega (arith, h.within, c.span.ensures.0))
-
--- where a line in it is bad it has two records or more
-two : (c : tie.Then1 invariant-loop decreases-loop) → 2 ≤ c.before.before.span.result
-two c =
-    let read = c.before.before in
-    let turn = read.before.before.before.before in
-    two_at_least turn.before.loop.invariant.5 turn.loop-test.true read.before.before.before.kind_at.ensures read.before.before.number.ensures read.before.byte.ensures.0
-    read.span.ensures.0 c.before.first-bad.ensures.0 c.if1.true
+-- the record of a turn ends behind itself and within line 1
+ends : {b : List ℕ} {n c : ℕ} {o p : List ℕ} {i : ℕ} {l : List ℕ} {k : ℕ} {q : List ℕ} {m s : ℕ} → Mending b n c o p i l k q m → i < n → s ≡ span_of b i
+    → (i < i + s) × (i + s ≤ n)
+ends w t e =
+    let h = mending_kept w t in
+    (omega (arith, h.some, e), omega (arith, h.within, e))
 
 pub loop-i-init : goal.loop-i-init
 loop-i-init c = (omega arith, omega arith, omega arith, refl, refl, mending_first _ _ _ _ _ c.requires.5)
 
 pub first_bad-bad-requires : goal.first_bad-bad-requires
-first_bad-bad-requires c = let y = ends c in (omega arith, omega arith, omega arith, omega arith)
+first_bad-bad-requires c = let y = ends c.loop-i.invariant.5 c.loop-i-test.true c.span-lines.ensures.0 in (omega arith, omega arith, omega arith, omega arith)
 
 pub put_denial-requires : goal.put_denial-requires
 put_denial-requires c =
-    omega (arith, ends c, two c, c.loop-i.invariant.1, c.loop-i.invariant.3, c.requires.3)
+    omega (arith, ends c.loop-i.invariant.5 c.loop-i-test.true c.span-lines.ensures.0, two_at_least c.loop-i.invariant.5 c.loop-i-test.true c.kind_at.ensures c.number-kind.ensures c.byte-c.ensures.0
+            c.span-lines.ensures.0 c.first_bad-bad.ensures.0 c.if-bad-next.true, c.loop-i.invariant.1, c.loop-i.invariant.3, c.requires.3)
 
 pub put_replacement-requires : goal.put_replacement-requires
 put_replacement-requires c =
-    let y = ends c in
-    let z = two c in
+    let y = ends c.loop-i.invariant.5 c.loop-i-test.true c.span-lines.ensures.0 in
+    let z = two_at_least c.loop-i.invariant.5 c.loop-i-test.true c.kind_at.ensures c.number-kind.ensures c.byte-c.ensures.0
+            c.span-lines.ensures.0 c.first_bad-bad.ensures.0 c.if-bad-next.true in
     (omega (arith, c.loop-i.invariant.2, c.loop-i.invariant.4, c.requires.4), omega (arith, c.requires.2), omega (arith, c.requires.2))
 
 pub loop-i-smaller-then-bad-next : goal.loop-i-smaller-then-bad-next
 loop-i-smaller-then-bad-next c =
-    let y = ends c in
+    let y = ends c.loop-i.invariant.5 c.loop-i-test.true c.span-lines.ensures.0 in
     omega arith
 
 pub loop-i-preserved-then-bad-next : goal.loop-i-preserved-then-bad-next
 loop-i-preserved-then-bad-next c =
-    let y = ends c in
-    let z = two c in (
+    let y = ends c.loop-i.invariant.5 c.loop-i-test.true c.span-lines.ensures.0 in
+    let z = two_at_least c.loop-i.invariant.5 c.loop-i-test.true c.kind_at.ensures c.number-kind.ensures c.byte-c.ensures.0
+            c.span-lines.ensures.0 c.first_bad-bad.ensures.0 c.if-bad-next.true in (
       omega arith,
       omega arith,
       omega arith,
@@ -58,17 +53,17 @@ loop-i-preserved-then-bad-next c =
     )
 
 pub copy-requires : goal.copy-requires
-copy-requires c = let y = ends c in (omega arith, omega arith)
+copy-requires c = let y = ends c.loop-i.invariant.5 c.loop-i-test.true c.span-lines.ensures.0 in (omega arith, omega arith)
 
 pub overflow_add-k-in-loop-i : goal.overflow_add-k-in-loop-i
-overflow_add-k-in-loop-i c = let y = ends c in omega arith
+overflow_add-k-in-loop-i c = let y = ends c.loop-i.invariant.5 c.loop-i-test.true c.span-lines.ensures.0 in omega arith
 
 pub loop-i-smaller : goal.loop-i-smaller
-loop-i-smaller c = let y = ends c in omega arith
+loop-i-smaller c = let y = ends c.loop-i.invariant.5 c.loop-i-test.true c.span-lines.ensures.0 in omega arith
 
 pub loop-i-preserved : goal.loop-i-preserved
 loop-i-preserved c =
-    let y = ends c in (
+    let y = ends c.loop-i.invariant.5 c.loop-i-test.true c.span-lines.ensures.0 in (
       omega arith,
       omega arith,
       omega arith,

@@ -22,9 +22,6 @@ returns-then-replaced-n c =
     answer_few _ _ _ _ c.is_set.ensures (not-false _ c.if-not-is_set.false-raw) c.requires.0 c.byte-category.ensures.0 c.first_spoilt-line.ensures.0
     c.if-line-n.false c.requires.2 c.if-out-book.false c.if-replaced-n.true c.no_room-then-replaced-n.ensures
 
-pub copy-requires : goal.copy-requires
-copy-requires c = search rules
-
 pub mend-done-requires : goal.mend-done-requires
 mend-done-requires c =
     (
@@ -35,9 +32,6 @@ mend-done-requires c =
       c.if-replaced-n.false,
       omega (arith, c.if-line-n.false, c.first_spoilt-line.ensures.0),
     )
-
-pub put_pair-requires : goal.put_pair-requires
-put_pair-requires c = search rules
 
 pub returns : goal.returns
 returns c =

@@ -9,9 +9,6 @@ returns-then-k-eq0 t c = halved_none _ _ c.if-k-eq0.true
 pub returns-then-m-ne0 : goal.returns-then-m-ne0
 returns-then-m-ne0 t c = halved_odd _ _ c.if-k-eq0.false c.if-m-ne0.true
 
-pub overflow_sub-k : goal.overflow_sub-k
-overflow_sub-k t c = search rules
-
 pub halved-requires : goal.halved-requires
 halved-requires t c = (search rules, tt)
 

@@ -9,18 +9,6 @@ use native.Mathlib.Omega.{arith}
 use borrow.Author.Rules.{rules}
 use Rattle.placement.proofs.+walk.Goals as goal
 
--- the record of this turn breaks no rule
-walk-passed : (t : ℕ) (c : walk-lts.Else1 (walk-calls t) (walk_at t) walk.Post walk-Inv-loop walk-μ-loop) →
-    let spanned = c.before.before.before.before in
-    let turn = spanned.before.before.before in
-    let a = turn.before.before.before.args in
-    let i = turn.before.loop.i in
-    Passed a.book.now a.parent i a.top a.depth a.kind a.outer a.category turn.before.loop.before spanned.before.before.kind_at.result spanned.before.byte.result (i + spanned.span.result)
-walk-passed t c =
-    let spanned = c.before.before.before.before in
-    let turn = spanned.before.before.before in
-    passed _ turn.before.loop.invariant.3 turn.loop-test.true spanned.before.before.kind_at.ensures spanned.before.byte.ensures.0 spanned.span.ensures.0 c.before.before.before.stands.ensures c.before.before.allowed.ensures c.before.child-rule.ensures c.if1.false
-
 pub loop-i-init : goal.loop-i-init
 loop-i-init t c = (omega arith, omega arith, omega arith, c.requires.3, refl)
 
@@ -34,31 +22,31 @@ returns-then-rule-ne0 t c =
     found _ (stop_here _ c.loop-i.invariant.3 c.loop-i-test.true c.kind_at-k.ensures c.byte-c.ensures.0 c.span.ensures.0 c.stands.ensures c.allowed-ok.ensures c.child_rule-rule.ensures c.if-rule-ne0.true) c.loop-i.invariant.4 (omega arith)
 
 pub loop-i-smaller-then-next-at : goal.loop-i-smaller-then-next-at
-loop-i-smaller-then-next-at t c = let y = bounds _ (walk-passed t c) in omega arith
+loop-i-smaller-then-next-at t c = let y = bounds _ (passed _ c.loop-i.invariant.3 c.loop-i-test.true c.kind_at-k.ensures c.byte-c.ensures.0 c.span.ensures.0 c.stands.ensures c.allowed-ok.ensures c.child_rule-rule.ensures c.if-rule-ne0.false) in omega arith
 
 pub loop-i-preserved-then-next-at : goal.loop-i-preserved-then-next-at
 loop-i-preserved-then-next-at t c =
-    let h = walk-passed t c in
+    let h = passed _ c.loop-i.invariant.3 c.loop-i-test.true c.kind_at-k.ensures c.byte-c.ensures.0 c.span.ensures.0 c.stands.ensures c.allowed-ok.ensures c.child_rule-rule.ensures c.if-rule-ne0.false in
     let y = bounds _ h in
     let f = found_leaf c.args.book.now c.loop-i.i c.if-next-at.true in
     (omega arith, omega arith, omega arith, rest _ h f (omega arith) c.rank-before.ensures.0, go_on _ h f (omega arith) c.loop-i.invariant.4)
 
 pub walk-bad-requires : goal.walk-bad-requires
 walk-bad-requires t c =
-    let h = walk-passed t c in
+    let h = passed _ c.loop-i.invariant.3 c.loop-i-test.true c.kind_at-k.ensures c.byte-c.ensures.0 c.span.ensures.0 c.stands.ensures c.allowed-ok.ensures c.child_rule-rule.ensures c.if-rule-ne0.false in
     let y = bounds _ h in
     (omega arith, (omega arith, omega arith, omega arith, kids _ h c.number.ensures))
 
 pub returns-then-bad-next : goal.returns-then-bad-next
 returns-then-bad-next t c =
-    found _ (stop_in _ (walk-passed t c) c.walk-bad.ensures c.if-bad-next.true) c.loop-i.invariant.4 (omega arith)
+    found _ (stop_in _ (passed _ c.loop-i.invariant.3 c.loop-i-test.true c.kind_at-k.ensures c.byte-c.ensures.0 c.span.ensures.0 c.stands.ensures c.allowed-ok.ensures c.child_rule-rule.ensures c.if-rule-ne0.false) c.walk-bad.ensures c.if-bad-next.true) c.loop-i.invariant.4 (omega arith)
 
 pub loop-i-smaller : goal.loop-i-smaller
-loop-i-smaller t c = let y = bounds _ (walk-passed t c) in omega arith
+loop-i-smaller t c = let y = bounds _ (passed _ c.loop-i.invariant.3 c.loop-i-test.true c.kind_at-k.ensures c.byte-c.ensures.0 c.span.ensures.0 c.stands.ensures c.allowed-ok.ensures c.child_rule-rule.ensures c.if-rule-ne0.false) in omega arith
 
 pub loop-i-preserved : goal.loop-i-preserved
 loop-i-preserved t c =
-    let h = walk-passed t c in
+    let h = passed _ c.loop-i.invariant.3 c.loop-i-test.true c.kind_at-k.ensures c.byte-c.ensures.0 c.span.ensures.0 c.stands.ensures c.allowed-ok.ensures c.child_rule-rule.ensures c.if-rule-ne0.false in
     let y = bounds _ h in
     let f = c.walk-bad.ensures in
     (omega arith, omega arith, omega arith, rest _ h f c.if-bad-next.false c.rank-before.ensures.0, go_on _ h f c.if-bad-next.false c.loop-i.invariant.4)

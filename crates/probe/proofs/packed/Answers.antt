@@ -4,24 +4,9 @@ use borrow.Author.Rules.{rules}
 use Rattle.probe.specs.Packed.{packed_of}
 use Rattle.probe.proofs.packed.Goals as goal
 
-pub enum_known-answer : goal.enum_known-answer
-enum_known-answer c = search rules
-
 pub overflow_mul-result : goal.overflow_mul-result
 unfolding packed_of
 overflow_mul-result c = omega (arith, ap packed_of c.in-Places.is)
-
-pub enum_known-answer-in-Refused-1 : goal.enum_known-answer-in-Refused-1
-enum_known-answer-in-Refused-1 c = search rules
-
-pub overflow_cast-result : goal.overflow_cast-result
-overflow_cast-result c = search rules
-
-pub overflow_mul-result-in-Refused : goal.overflow_mul-result-in-Refused
-overflow_mul-result-in-Refused c = search rules
-
-pub overflow_add-result : goal.overflow_add-result
-overflow_add-result c = search rules
 
 pub overflow_mul-result-in-Refused-2 : goal.overflow_mul-result-in-Refused-2
 unfolding packed_of
@@ -30,12 +15,6 @@ overflow_mul-result-in-Refused-2 c = omega (arith, ap packed_of c.in-Refused.is)
 pub overflow_add-result-in-Refused : goal.overflow_add-result-in-Refused
 unfolding packed_of
 overflow_add-result-in-Refused c = omega (arith, ap packed_of c.in-Refused.is)
-
-pub overflow_cast-result-in-Refused : goal.overflow_cast-result-in-Refused
-overflow_cast-result-in-Refused c = search rules
-
-pub overflow_mul-result-in-Refused-3 : goal.overflow_mul-result-in-Refused-3
-overflow_mul-result-in-Refused-3 c = search rules
 
 pub overflow_add-result-in-Refused-2 : goal.overflow_add-result-in-Refused-2
 unfolding packed_of

@@ -6,14 +6,8 @@ use Rattle.probe.specs.Packed.{packed_of}
 use Rattle.probe.proofs.Laws.{read_small}
 use Rattle.probe.proofs.probe_read_book.Goals as goal
 
-pub read_book-requires : goal.read_book-requires
-read_book-requires c = search rules
-
 pub packed-requires : goal.packed-requires
 packed-requires c = rw c.read_book.ensures.0 (read_small book (omega arith) (omega arith) _ _)
-
-pub shape_of-out : goal.shape_of-out
-shape_of-out c = search rules
 
 pub returns : goal.returns
 returns c = (c.packed.ensures ∙ ap packed_of c.read_book.ensures.0, rw (← c.read_book.ensures.0) c.read_book.ensures.1)

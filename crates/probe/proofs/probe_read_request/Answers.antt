@@ -6,14 +6,8 @@ use Rattle.probe.specs.Packed.{packed_of}
 use Rattle.probe.proofs.Laws.{read_small}
 use Rattle.probe.proofs.probe_read_request.Goals as goal
 
-pub read_request-requires : goal.read_request-requires
-read_request-requires c = search rules
-
 pub packed-requires : goal.packed-requires
 packed-requires c = rw c.read_request.ensures.0 (read_small request (omega arith) (omega arith) _ _)
-
-pub shape_of-out : goal.shape_of-out
-shape_of-out c = search rules
 
 pub returns : goal.returns
 returns c = (c.packed.ensures ∙ ap packed_of c.read_request.ensures.0, rw (← c.read_request.ensures.0) c.read_request.ensures.1)

@@ -6,14 +6,8 @@ use Rattle.probe.specs.Packed.{packed_of}
 use Rattle.probe.proofs.Laws.{write_small}
 use Rattle.probe.proofs.probe_write_request.Goals as goal
 
-pub write_request-requires : goal.write_request-requires
-write_request-requires c = search rules
-
 pub packed-requires : goal.packed-requires
 packed-requires c = rw c.write_request.ensures.0 (write_small request (omega arith) (omega arith) _ _)
-
-pub shape_of-out : goal.shape_of-out
-shape_of-out c = search rules
 
 pub returns : goal.returns
 returns c = (c.packed.ensures ∙ ap packed_of c.write_request.ensures.0, rw (← c.write_request.ensures.0) c.write_request.ensures.1)

@@ -10,13 +10,6 @@ use Rattle.run.proofs.Laws.{stacks_small, admit_none, admit_long, admit_high, ad
 use Rattle.layout.specs.Room.{room_p}
 use Rattle.run.proofs.admits.Goals as goal
 
--- what is left to test of the first number, once it is unpacked
-tests_left : (c : tie.After-unpack) →
-    let h = c.unpack.result in
-    let a = c.before.before.before.before.args in
-    both (leb h.depth 16) (both (leb h.nest 14) (both (leb h.permits room_p) (leb (h.cut + h.denies) room_p))) ≡ admitted a.long a.head
-tests_left c = admit_by _ _ (omega arith) c.before.before.if2.false c.before.if3.false _ c.unpack.ensures
-
 pub returns-then-long-eq0 : goal.returns-then-long-eq0
 returns-then-long-eq0 c = admit_none _ _ c.if-long-eq0.true
 
@@ -27,16 +20,16 @@ pub returns-then-head-ge4611686018427387904 : goal.returns-then-head-ge461168601
 returns-then-head-ge4611686018427387904 c = admit_high _ _ (omega arith) c.if-long-gt-MOST.false c.if-head-ge4611686018427387904.true
 
 pub returns-then-h-gt16 : goal.returns-then-h-gt16
-returns-then-h-gt16 c = rw (lt-leb _ _ c.if-h-gt16.true) at (tests_left c)
+returns-then-h-gt16 c = rw (lt-leb _ _ c.if-h-gt16.true) at (admit_by _ _ (omega arith) c.if-long-gt-MOST.false c.if-head-ge4611686018427387904.false _ c.unpack-h.ensures)
 
 pub returns-then-h-gt14 : goal.returns-then-h-gt14
-returns-then-h-gt14 c = rw (le-leb _ _ c.if-h-gt16.false, lt-leb _ _ c.if-h-gt14.true) at (tests_left c)
+returns-then-h-gt14 c = rw (le-leb _ _ c.if-h-gt16.false, lt-leb _ _ c.if-h-gt14.true) at (admit_by _ _ (omega arith) c.if-long-gt-MOST.false c.if-head-ge4611686018427387904.false _ c.unpack-h.ensures)
 
 pub returns-then-h : goal.returns-then-h
-returns-then-h c = rw (le-leb _ _ c.if-h-gt16.false, le-leb _ _ c.if-h-gt14.false, lt-leb _ _ c.if-h.true) at (tests_left c)
+returns-then-h c = rw (le-leb _ _ c.if-h-gt16.false, le-leb _ _ c.if-h-gt14.false, lt-leb _ _ c.if-h.true) at (admit_by _ _ (omega arith) c.if-long-gt-MOST.false c.if-head-ge4611686018427387904.false _ c.unpack-h.ensures)
 
 pub overflow_add-result : goal.overflow_add-result
 overflow_add-result c = omega (arith, stacks_small _ _ c.unpack-h.ensures)
 
 pub returns : goal.returns
-returns c = rw (le-leb _ _ c.if-h-gt16.false, le-leb _ _ c.if-h-gt14.false, le-leb _ _ c.if-h.false) at (tests_left c)
+returns c = rw (le-leb _ _ c.if-h-gt16.false, le-leb _ _ c.if-h-gt14.false, le-leb _ _ c.if-h.false) at (admit_by _ _ (omega arith) c.if-long-gt-MOST.false c.if-head-ge4611686018427387904.false _ c.unpack-h.ensures)

@@ -5,57 +5,40 @@ use borrow.Author.Rules.{rules}
 use borrow.Author.Tests.{not-true, not-false}
 use Rattle.spoilt.specs.Places.{parent, spoilt_at}
 use Rattle.spoilt.proofs.Lines.{kept}
-use Rattle.spoilt.proofs.Walk.{Passed, bounds, spoilt_end, spoilt_here, spoilt_over, spoilt_in, spoilt_on}
+use Rattle.spoilt.proofs.Walk.{passed, bounds, spoilt_end, spoilt_here, spoilt_over, spoilt_in, spoilt_on}
 use Rattle.spoilt.proofs.first_spoilt.Goals as goal
-
--- the line of this turn is not bad
-passed : (c : tie.After-rank invariant-loop decreases-loop) →
-    let read = c.before in
-    let turn = read.before.before.before.before.before in
-    let a = turn.before.before.before.args in
-    Passed a.book.now turn.before.loop.i a.n 1 1 a.category a.category turn.before.loop.rank read.before.before.before.before.kind_at.result read.before.byte.result read.span.result c.rank.result
-passed c =
-    let read = c.before in
-    let tested = read.before.before in
-    record {
-      keeps = kept _ _ _ _ _ _ _ _ tested.before.before.before.loop-test.true tested.before.line_ok.ensures (not-false _ tested.if1.false);
-      kind = tested.before.before.kind_at.ensures;
-      category = read.before.byte.ensures.0;
-      span = read.span.ensures.0;
-      rank = c.rank.ensures.0;
-    }
 
 pub loop-i-init : goal.loop-i-init
 loop-i-init c = (omega arith, omega arith, refl)
 
 pub returns-then-not-line_ok : goal.returns-then-not-line_ok
 returns-then-not-line_ok c =
-    (sym (c.loop-i.invariant.2 ∙ spoilt_here _ _ _ _ _ _ _ _ c.loop-i-test.true c.line_ok.ensures (not-true _ c.if-not-line_ok.true-raw)), omega arith)
+    (sym (c.loop-i.invariant.2 ∙ spoilt_here _ _ _ _ _ _ _ _ c.loop-i-test.true c.line_ok.ensures c.if-not-line_ok.true), omega arith)
 
 pub loop-i-smaller-then-number-le2 : goal.loop-i-smaller-then-number-le2
-loop-i-smaller-then-number-le2 c = let y = bounds _ (passed c) in omega arith
+loop-i-smaller-then-number-le2 c = let y = bounds _ (passed c.loop-i-test.true c.line_ok.ensures c.if-not-line_ok.false c.kind_at-k.ensures c.byte-c.ensures.0 c.span.ensures.0 c.rank-rank.ensures.0) in omega arith
 
 pub loop-i-preserved-then-number-le2 : goal.loop-i-preserved-then-number-le2
 loop-i-preserved-then-number-le2 c =
-    let h = passed c in
+    let h = passed c.loop-i-test.true c.line_ok.ensures c.if-not-line_ok.false c.kind_at-k.ensures c.byte-c.ensures.0 c.span.ensures.0 c.rank-rank.ensures.0 in
     let y = bounds _ h in
     (omega arith, omega arith, c.loop-i.invariant.2 ∙ spoilt_over _ h c.number-number.ensures c.if-number-le2.true)
 
 pub first_bad-bad-requires : goal.first_bad-bad-requires
-first_bad-bad-requires c = let y = bounds _ (passed c) in (omega arith, omega arith, omega arith, omega arith)
+first_bad-bad-requires c = let y = bounds _ (passed c.loop-i-test.true c.line_ok.ensures c.if-not-line_ok.false c.kind_at-k.ensures c.byte-c.ensures.0 c.span.ensures.0 c.rank-rank.ensures.0) in (omega arith, omega arith, omega arith, omega arith)
 
 pub returns-then-bad-next : goal.returns-then-bad-next
 returns-then-bad-next c =
-    let h = passed c in
+    let h = passed c.loop-i-test.true c.line_ok.ensures c.if-not-line_ok.false c.kind_at-k.ensures c.byte-c.ensures.0 c.span.ensures.0 c.rank-rank.ensures.0 in
     let y = bounds _ h in
     (sym (c.loop-i.invariant.2 ∙ spoilt_in _ h c.number-number.ensures c.first_bad-bad.ensures.0 c.if-number-le2.false c.if-bad-next.true), omega arith)
 
 pub loop-i-smaller : goal.loop-i-smaller
-loop-i-smaller c = let y = bounds _ (passed c) in omega arith
+loop-i-smaller c = let y = bounds _ (passed c.loop-i-test.true c.line_ok.ensures c.if-not-line_ok.false c.kind_at-k.ensures c.byte-c.ensures.0 c.span.ensures.0 c.rank-rank.ensures.0) in omega arith
 
 pub loop-i-preserved : goal.loop-i-preserved
 loop-i-preserved c =
-    let h = passed c in
+    let h = passed c.loop-i-test.true c.line_ok.ensures c.if-not-line_ok.false c.kind_at-k.ensures c.byte-c.ensures.0 c.span.ensures.0 c.rank-rank.ensures.0 in
     let y = bounds _ h in
     (omega arith, omega arith, c.loop-i.invariant.2 ∙ spoilt_on _ h c.number-number.ensures c.first_bad-bad.ensures.0 c.if-bad-next.false)
 

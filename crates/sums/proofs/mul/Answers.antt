@@ -5,18 +5,9 @@ use Rattle.sums.proofs.Sizes.{mul_zero, mul_fails, mul_ends, read_size, under}
 use borrow.Author.Rules.{rules}
 use Rattle.sums.proofs.mul.Goals as goal
 
-pub size-a-requires : goal.size-a-requires
-size-a-requires c = search rules
-
-pub size-b-requires : goal.size-b-requires
-size-b-requires c = search rules
-
 pub returns-then-a-eq0 : goal.returns-then-a-eq0
 returns-then-a-eq0 c =
     mul_zero c.args.x c.args.y (sym (read_size c.args.x c.ranges.x _ c.size-a.ensures) ∙ c.if-a-eq0.true)
-
-pub nonzero_div-a : goal.nonzero_div-a
-nonzero_div-a c = search rules
 
 pub returns-then-b-a : goal.returns-then-b-a
 returns-then-b-a c =
@@ -24,16 +15,10 @@ returns-then-b-a c =
     let b = read_size c.args.y c.ranges.y _ c.size-b.ensures in
     mul_fails c.args.x c.args.y (λ e. c.if-a-eq0.false (a ∙ e)) (rw (a, b) at c.if-b-a.true)
 
-pub unlike-requires : goal.unlike-requires
-unlike-requires c = search rules
-
 pub overflow_mul-b : goal.overflow_mul-b
 overflow_mul-b c =
     let l = under c.size-a.result c.size-b.result (pos_of_ne-zero c.if-a-eq0.false) c.if-b-a.false in
     record { fits = omega (arith, l) }
-
-pub of_size-requires : goal.of_size-requires
-of_size-requires c = search rules
 
 pub returns : goal.returns
 returns c =

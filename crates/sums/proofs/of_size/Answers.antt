@@ -11,12 +11,6 @@ returns-then-n-gt9223372036854775808 c = rw c.if-minus.true (minus_fails _ c.if-
 pub returns-then-n-eq0 : goal.returns-then-n-eq0
 returns-then-n-eq0 c = rw (c.if-minus.true, c.if-n-eq0.true)
 
-pub overflow_sub-low : goal.overflow_sub-low
-overflow_sub-low c = search rules
-
-pub overflow_cast-low : goal.overflow_cast-low
-overflow_cast-low c = search rules
-
 pub overflow_sub-low-then-minus : goal.overflow_sub-low-then-minus
 overflow_sub-low-then-minus c = first_fits (c.args.n - 1) (omega arith)
 
@@ -28,9 +22,6 @@ returns-then-minus c = rw c.if-minus.true (minus_is c.args.n c.if-n-eq0.false c.
 
 pub returns-then-n-gt9223372036854775807 : goal.returns-then-n-gt9223372036854775807
 returns-then-n-gt9223372036854775807 c = rw c.if-minus.false (plus_fails _ c.if-n-gt9223372036854775807.true)
-
-pub overflow_cast-high : goal.overflow_cast-high
-overflow_cast-high c = search rules
 
 pub returns : goal.returns
 returns c = rw c.if-minus.false (plus_is _ c.if-n-gt9223372036854775807.false)

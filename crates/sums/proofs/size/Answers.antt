@@ -19,6 +19,3 @@ returns-then-x-lt0 c = size_is c.args.x c.ranges.x c.if-x-lt0.true
 
 pub overflow_cast-result-2 : goal.overflow_cast-result-2
 overflow_cast-result-2 c = pos_cast c.args.x c.ranges.x c.if-x-lt0.false
-
-pub returns : goal.returns
-returns c = search rules

@@ -13,25 +13,10 @@ pub loop-j-init : goal.loop-j-init
 unfolding all_below
 loop-j-init c = (search rules, refl)
 
-pub overflow_add-at : goal.overflow_add-at
-overflow_add-at c = search rules
-
-pub bounds-text-at : goal.bounds-text-at
-bounds-text-at c = search rules
-
-pub is_digit-requires : goal.is_digit-requires
-is_digit-requires c = search rules
-
 pub returns-then-not-is_digit : goal.returns-then-not-is_digit
 returns-then-not-is_digit c =
     let a = c.args in
     sym (all_false (digit_at a.text.now a.at) a.n c.loop-j.j (search rules) (sym c.is_digit.ensures ∙ not-true _ c.if-not-is_digit.true-raw))
-
-pub overflow_add-j : goal.overflow_add-j
-overflow_add-j c = search rules
-
-pub loop-j-smaller : goal.loop-j-smaller
-loop-j-smaller c = search rules
 
 pub loop-j-preserved : goal.loop-j-preserved
 loop-j-preserved c =

@@ -8,18 +8,9 @@ use Rattle.text.proofs.byte_at.Goals as goal
 pub returns-then-w-k : goal.returns-then-w-k
 returns-then-w-k c = sym (unsaid _ _ _ c.requires.0 (omega arith))
 
-pub overflow_mul-p : goal.overflow_mul-p
-overflow_mul-p c = search rules
-
-pub overflow_add-p : goal.overflow_add-p
-overflow_add-p c = search rules
-
 pub overflow_mul-p-2 : goal.overflow_mul-p-2
 unfolding start
 overflow_mul-p-2 c = omega arith
-
-pub overflow_mul-p-3 : goal.overflow_mul-p-3
-overflow_mul-p-3 c = search rules
 
 pub overflow_add-p-2 : goal.overflow_add-p-2
 unfolding start
@@ -29,12 +20,6 @@ pub bounds-text-p : goal.bounds-text-p
 unfolding start
 bounds-text-p c = omega arith
 
-pub value-requires : goal.value-requires
-value-requires c = search rules
-
-pub overflow_mul-result : goal.overflow_mul-result
-overflow_mul-result c = search rules
-
 pub overflow_add-p-3 : goal.overflow_add-p-3
 unfolding start
 overflow_add-p-3 c = omega arith
@@ -42,12 +27,6 @@ overflow_add-p-3 c = omega arith
 pub bounds-text-p-2 : goal.bounds-text-p-2
 unfolding start
 bounds-text-p-2 c = omega arith
-
-pub value-requires-2 : goal.value-requires-2
-value-requires-2 c = search rules
-
-pub overflow_add-result : goal.overflow_add-result
-overflow_add-result c = search rules
 
 pub returns : goal.returns
 unfolding start

@@ -4,12 +4,6 @@ use Rattle.record.proofs.Choose.{below_among, above_among}
 use Rattle.text.proofs.Laws.{digit_number, digit_capital, digit_small, digit_none}
 use Rattle.text.proofs.digit.Goals as goal
 
-pub overflow_sub-result-in-65-to-70 : goal.overflow_sub-result-in-65-to-70
-overflow_sub-result-in-65-to-70 c = search rules
-
-pub overflow_sub-result-in-97-to-102 : goal.overflow_sub-result-in-97-to-102
-overflow_sub-result-in-97-to-102 c = search rules
-
 pub returns-in-48-to-57 : goal.returns-in-48-to-57
 returns-in-48-to-57 c = digit_number _ (omega arith) (omega arith)
 

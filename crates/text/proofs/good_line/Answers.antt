@@ -6,32 +6,17 @@ use borrow.Author.Tests.{lt-leb, le-leb, eq-eqb, ne_eqb}
 use Rattle.text.specs.Text.{good_line, line_length}
 use Rattle.text.proofs.good_line.Goals as goal
 
-pub overflow_mul-end : goal.overflow_mul-end
-overflow_mul-end c = search rules
-
-pub overflow_sub-text : goal.overflow_sub-text
-overflow_sub-text c = search rules
-
 pub returns-then-text-at : goal.returns-then-text-at
 unfolding good_line
 returns-then-text-at c =
     let a = c.args in
     simp (lt-leb (a.at + line_length a.w) (length a.text.now) (omega arith))
 
-pub overflow_add-at : goal.overflow_add-at
-overflow_add-at c = search rules
-
-pub bounds-text-at : goal.bounds-text-at
-bounds-text-at c = search rules
-
 pub returns-then-text-at-ne-LF : goal.returns-then-text-at-ne-LF
 unfolding good_line
 returns-then-text-at-ne-LF c =
     let a = c.args in
     simp (le-leb (a.at + line_length a.w) (length a.text.now) (omega arith), ne_eqb _ _ c.if-text-at-ne-LF.true)
-
-pub all_digits-requires : goal.all_digits-requires
-all_digits-requires c = search rules
 
 pub returns : goal.returns
 unfolding good_line

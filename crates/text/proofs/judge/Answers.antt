@@ -16,31 +16,10 @@ loop-n-init c = (search rules, sym (start_none _), search rules, rw sub-zero)
 pub returns-then-text-at : goal.returns-then-text-at
 returns-then-text-at c = sym (c.loop-n.invariant.3 ∙ judge_end _ _ _ _ c.loop-n.invariant.1 c.if-text-at.true)
 
-pub good_line-requires : goal.good_line-requires
-good_line-requires c = search rules
-
-pub overflow_add-line : goal.overflow_add-line
-overflow_add-line c = search rules
-
 pub returns-then-not-good_line : goal.returns-then-not-good_line
 returns-then-not-good_line c =
     let most = c.args.most in
     sym (c.loop-n.invariant.3 ∙ judge_wrong _ _ (most - c.loop-n.n) (most - (c.loop-n.n + 1)) c.loop-n.n (omega arith) c.loop-n.invariant.1 (search rules) (sym c.good_line.ensures ∙ not-true _ c.if-not-good_line.true-raw))
-
-pub overflow_add-n : goal.overflow_add-n
-overflow_add-n c = search rules
-
-pub overflow_mul-at : goal.overflow_mul-at
-overflow_mul-at c = search rules
-
-pub overflow_add-at : goal.overflow_add-at
-overflow_add-at c = search rules
-
-pub overflow_add-at-in-loop-n : goal.overflow_add-at-in-loop-n
-overflow_add-at-in-loop-n c = search rules
-
-pub loop-n-smaller : goal.loop-n-smaller
-loop-n-smaller c = search rules
 
 pub loop-n-preserved : goal.loop-n-preserved
 loop-n-preserved c =

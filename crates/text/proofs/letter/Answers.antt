@@ -4,18 +4,9 @@ use borrow.Author.Tests.{lt-ltb, le-ltb}
 use Rattle.text.specs.Hex.{letter_of}
 use Rattle.text.proofs.letter.Goals as goal
 
-pub overflow_cast-d : goal.overflow_cast-d
-overflow_cast-d c = search rules
-
-pub overflow_add-result : goal.overflow_add-result
-overflow_add-result c = search rules
-
 pub returns-then-d-lt10 : goal.returns-then-d-lt10
 unfolding letter_of
 returns-then-d-lt10 c = simp (lt-ltb _ _ c.if-d-lt10.true) (omega arith)
-
-pub overflow_add-result-2 : goal.overflow_add-result-2
-overflow_add-result-2 c = search rules
 
 pub returns : goal.returns
 unfolding letter_of

@@ -10,29 +10,14 @@ pub returns-then-k-eq-DIGITS : goal.returns-then-k-eq-DIGITS
 unfolding text_at
 returns-then-k-eq-DIGITS c = simp (eq-eqb _ _ c.if-k-eq-DIGITS.true)
 
-pub overflow_mul-b : goal.overflow_mul-b
-overflow_mul-b c = search rules
-
-pub overflow_add-b : goal.overflow_add-b
-overflow_add-b c = search rules
-
-pub bounds-records-j : goal.bounds-records-j
-bounds-records-j c = search rules
-
 pub overflow_cast-b : goal.overflow_cast-b
 overflow_cast-b c =
     let j = c.args.j in
     omega (arith, c.shared_slice_known-2-1.given (size * (j / line_length size) + j % line_length size / 2))
 
-pub letter-requires : goal.letter-requires
-letter-requires c = search rules
-
 pub returns-then-k-eq0 : goal.returns-then-k-eq0
 unfolding text_at
 returns-then-k-eq0 c = simp (ne_eqb _ _ c.if-k-eq-DIGITS.false, eq-eqb _ _ c.if-k-eq0.true) c.letter.ensures
-
-pub letter-requires-2 : goal.letter-requires-2
-letter-requires-2 c = search rules
 
 pub returns : goal.returns
 unfolding text_at

@@ -5,15 +5,6 @@ use Rattle.text.specs.Hex.{value_in, digit_value}
 use Rattle.text.proofs.Laws.{value_small}
 use Rattle.text.proofs.value.Goals as goal
 
-pub digit-requires : goal.digit-requires
-digit-requires c = search rules
-
-pub enum_known-v : goal.enum_known-v
-enum_known-v c = search rules
-
-pub enum_told-1 : goal.enum_told-1
-enum_told-1 c = search rules
-
 pub returns-in-Value : goal.returns-in-Value
 unfolding digit_value
 returns-in-Value c =

@@ -6,47 +6,23 @@ use Rattle.text.specs.Text.{output_after}
 use Rattle.text.proofs.Answers.{write_missing, write_cut, write_many, write_short, write_done}
 use Rattle.text.proofs.write_text.Goals as goal
 
-pub missing-requires : goal.missing-requires
-missing-requires c = search rules
-
-pub no_record-requires : goal.no_record-requires
-no_record-requires c = search rules
-
 pub returns-then-missing : goal.returns-then-missing
 unfolding output_after
 returns-then-missing c = (ap Refused c.no_record.ensures ∙ sym (write_missing _ _ _ (sym c.missing.ensures ∙ c.if-missing.true)), refl)
 
-pub cut_short-requires : goal.cut_short-requires
-cut_short-requires c = search rules
-
 pub returns-then-records-gt0 : goal.returns-then-records-gt0
 unfolding output_after
 returns-then-records-gt0 c = (ap Refused c.cut_short.ensures ∙ sym (write_cut _ _ _ (sym c.missing.ensures ∙ c.if-missing.false) c.if-records-gt0.true), refl)
-
-pub too_many-requires : goal.too_many-requires
-too_many-requires c = search rules
 
 pub returns-then-kind-n : goal.returns-then-kind-n
 unfolding output_after
 returns-then-kind-n c =
     (ap Refused c.too_many.ensures ∙ sym (write_many _ _ _ (sym c.missing.ensures ∙ c.if-missing.false) c.if-records-gt0.false c.if-kind-n.true), refl)
 
-pub no_room-requires : goal.no_room-requires
-no_room-requires c = search rules
-
 pub returns-then-out-n : goal.returns-then-out-n
 unfolding output_after
 returns-then-out-n c =
     (ap Refused c.no_room.ensures ∙ sym (write_short _ _ _ (sym c.missing.ensures ∙ c.if-missing.false) c.if-records-gt0.false c.if-kind-n.false (omega arith)), refl)
-
-pub encode-requires : goal.encode-requires
-encode-requires c = search rules
-
-pub overflow_mul-result : goal.overflow_mul-result
-overflow_mul-result c = search rules
-
-pub shape_of-out : goal.shape_of-out
-shape_of-out c = search rules
 
 pub returns : goal.returns
 unfolding output_after

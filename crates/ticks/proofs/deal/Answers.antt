@@ -17,12 +17,6 @@ turn-t-requires c = tt
 pub returns-then-not-t : goal.returns-then-not-t
 returns-then-not-t c = tt
 
-pub overflow_add-i : goal.overflow_add-i
-overflow_add-i c = search rules
-
-pub loop-i-smaller : goal.loop-i-smaller
-loop-i-smaller c = search rules
-
 pub loop-i-preserved : goal.loop-i-preserved
 loop-i-preserved c = tt
 

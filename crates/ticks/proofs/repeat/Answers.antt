@@ -10,12 +10,6 @@ turn-t-requires c = tt
 pub returns-then-not-t : goal.returns-then-not-t
 returns-then-not-t c = tt
 
-pub overflow_sub-left : goal.overflow_sub-left
-overflow_sub-left c = search rules
-
-pub loop-left-smaller : goal.loop-left-smaller
-loop-left-smaller c = search rules
-
 pub loop-left-preserved : goal.loop-left-preserved
 loop-left-preserved c = tt
 

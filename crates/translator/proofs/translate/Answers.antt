@@ -40,22 +40,18 @@ is-written b {n} {m} {k} {start} {o} {o₁} e l f h g =
       v ∙ sets-eq (in_numbers (translated (book_of b))) o 0 (omega (arith, w, l, h)) ∙ rw (zero-add (length (in_numbers (translated (book_of b)))), ← w) refl,
     )
 
--- an accepted book: its judgement, and how many bytes it has
-size_of : (c : tie.After-known-told2) → Sized c.before.before.before.before.before.before.args.book.now c.before.judged2.given.0.0
-size_of c = (accepted_keeps _ _ _ (sym c.before.before.before.judge-book.ensures ∙ c.before.judged2.given.1)).0.sized
-
 pub overflow_mul-records : goal.overflow_mul-records
-overflow_mul-records c = omega (arith, (size_of c).most)
+overflow_mul-records c = omega (arith, ((accepted_keeps _ _ _ (sym c.judge_book-judged.ensures ∙ c.in-Accepted.is)).0.sized).most)
 
 pub overflow_add-records : goal.overflow_add-records
-overflow_add-records c = omega (arith, (size_of c).most)
+overflow_add-records c = omega (arith, ((accepted_keeps _ _ _ (sym c.judge_book-judged.ensures ∙ c.in-Accepted.is)).0.sized).most)
 
 pub returns-then-out-records : goal.returns-then-out-records
 returns-then-out-records c =
     let l : length c.args.out.now < room_for c.in-Accepted.records = omega (arith, c.if-out-records.true) in (is-short _ _ (sym c.judge_book-judged.ensures ∙ c.in-Accepted.is) l c.no_room.ensures, refl)
 
 pub write-requires : goal.write-requires
-write-requires c = let k = size_of c in (k.some, k.most, k.bytes, omega (arith, c.if-out-records.false))
+write-requires c = let k = (accepted_keeps _ _ _ (sym c.judge_book-judged.ensures ∙ c.in-Accepted.is)).0.sized in (k.some, k.most, k.bytes, omega (arith, c.if-out-records.false))
 
 pub returns-in-Refused : goal.returns-in-Refused
 returns-in-Refused c = (is-refused _ _ (sym c.judge_book-judged.ensures ∙ c.in-Refused.is), refl)

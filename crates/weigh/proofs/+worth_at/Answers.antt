@@ -8,10 +8,10 @@ pub returns-then-choice-eq2 : goal.returns-then-choice-eq2
 returns-then-choice-eq2 t c = attribute_is _ _ _ _ c.byte-choice.ensures.0 c.if-choice-eq2.true c.key_at.ensures.0 c.only.ensures
 
 pub returns-then-choice-eq1 : goal.returns-then-choice-eq1
-returns-then-choice-eq1 t c = literal_is _ _ _ _ c.byte-choice.ensures.0 c.if-choice-eq1.true c.big8-literal.ensures c.big8-literal.type-inv
+returns-then-choice-eq1 t c = literal_is _ _ _ _ c.byte-choice.ensures.0 c.if-choice-eq1.true c.big8-literal.ensures (search rules)
 
 pub returns-then-second-stop : goal.returns-then-second-stop
-returns-then-second-stop t c = without_operands _ _ _ _ c.requires.0 c.byte-choice.ensures.0 c.if-choice-eq1.false c.if-choice-eq2.false c.second_in-second.ensures.0 c.big8-literal.ensures c.big8-literal.type-inv c.if-second-stop.true
+returns-then-second-stop t c = without_operands _ _ _ _ c.requires.0 c.byte-choice.ensures.0 c.if-choice-eq1.false c.if-choice-eq2.false c.second_in-second.ensures.0 c.big8-literal.ensures (search rules) c.if-second-stop.true
 
 pub worth_at-a-requires : goal.worth_at-a-requires
 worth_at-a-requires t c =

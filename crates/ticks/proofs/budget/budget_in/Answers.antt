@@ -18,37 +18,16 @@ pub loop-i-init : goal.loop-i-init
 unfolding all_below
 loop-i-init c = (search rules, search rules, refl, decimal_none _, search rules)
 
-pub bounds-word-i : goal.bounds-word-i
-bounds-word-i c = search rules
-
 pub returns-then-c-lt48 : goal.returns-then-c-lt48
 returns-then-c-lt48 c = budget_other _ c.loop-i.i (search rules) (below_among 48 57 _ c.if-c-lt48.true)
 
 pub returns-then-c-gt57 : goal.returns-then-c-gt57
 returns-then-c-gt57 c = budget_other _ c.loop-i.i (search rules) (above_among 48 57 _ c.if-c-gt57.true)
 
-pub overflow_cast-digit : goal.overflow_cast-digit
-overflow_cast-digit c = search rules
-
-pub overflow_sub-digit-in-loop-i : goal.overflow_sub-digit-in-loop-i
-overflow_sub-digit-in-loop-i c = search rules
-
 pub returns-then-digit-n : goal.returns-then-digit-n
 returns-then-digit-n c =
     let args = c.args in
     budget_large _ c.loop-i.i (search rules) (omega (arith, decimal_more args.word.now c.loop-i.i, c.loop-i.invariant.3, c.if-digit-n.true))
-
-pub overflow_mul-n : goal.overflow_mul-n
-overflow_mul-n c = search rules
-
-pub overflow_add-n : goal.overflow_add-n
-overflow_add-n c = search rules
-
-pub overflow_add-i : goal.overflow_add-i
-overflow_add-i c = search rules
-
-pub loop-i-smaller : goal.loop-i-smaller
-loop-i-smaller c = search rules
 
 pub loop-i-preserved : goal.loop-i-preserved
 loop-i-preserved c =

@@ -13,23 +13,6 @@ use Rattle.emission.proofs.Emit.{third_fits, second_fits, first_fits, three, beh
 use borrow.Author.Tests.{not-true, not-false}
 use Rattle.translator.proofs.policies.+body_tree_trees_within.Goals as goal
 
--- how far it is to behind the obligations of a body
-body-behind : (t : ℕ) (c : body-lts.After-obligations (body-calls t) (body_at t) body.Post) →
-    let a = c.before.before.before.before.args in
-    a.end - c.obligations.result ≡ length (obligations_code a.book.now (a.i + 1) (a.stop - (a.i + 1)))
-body-behind t c = behind c.obligations.ensures
-
--- how far it is to behind the body, from before it and from before what says that it applies
-within-behind : (t : ℕ) (c : within-lts.After-applies (within-calls t) (within-at t) within.Post) →
-    let at_body = c.before.before.before.before.before in
-    let a = at_body.before.before.before.before.args in
-    let k = c.before.before.beyond.result in
-    let body = length (body_code a.book.now a.i (a.stop - a.i)) in
-    (k ≡ body + suc a.n) × (a.end - c.applies.result ≡ length (code_applies (is_only (over_policies (policies_by a.up))) k) + body)
-within-behind t c =
-    let done = c.before.before.before.before.before.body.ensures in
-    (past_body _ done c.before.before.beyond.ensures, past_both done c.applies.ensures)
-
 pub body-obligations-own-requires : goal.body-obligations-own-requires
 body-obligations-own-requires t c =
     (search rules, search rules, search rules, third_fits (body_to _ _ _ _ refl) _ c.requires.3, c.requires.5)
@@ -40,19 +23,19 @@ body-single-mid-requires t c =
 
 pub body-trees-requires : goal.body-trees-requires
 body-trees-requires t c =
-    (search rules, (search rules, search rules, search rules, first_fits (set_to _ _ _ _ _ (same_as c.byte.ensures.0 c.if-byte-eq1.true) c.byte-then-byte-eq1.ensures.0 (body-behind t c)) c.requires.3 c.obligations-own.ensures (concluded _ c.single-mid.ensures), search rules, c.requires.5))
+    (search rules, (search rules, search rules, search rules, first_fits (set_to _ _ _ _ _ (same_as c.byte.ensures.0 c.if-byte-eq1.true) c.byte-then-byte-eq1.ensures.0 (behind c.obligations-own.ensures)) c.requires.3 c.obligations-own.ensures (concluded _ c.single-mid.ensures), search rules, c.requires.5))
 
 pub body-returns-then-byte-eq1 : goal.body-returns-then-byte-eq1
 body-returns-then-byte-eq1 t c =
-    three (set_to _ _ _ _ _ (same_as c.byte.ensures.0 c.if-byte-eq1.true) c.byte-then-byte-eq1.ensures.0 (body-behind t c)) c.obligations-own.ensures (concluded _ c.single-mid.ensures) c.trees.ensures
+    three (set_to _ _ _ _ _ (same_as c.byte.ensures.0 c.if-byte-eq1.true) c.byte-then-byte-eq1.ensures.0 (behind c.obligations-own.ensures)) c.obligations-own.ensures (concluded _ c.single-mid.ensures) c.trees.ensures
 
 pub body-rules_in-requires : goal.body-rules_in-requires
 body-rules_in-requires t c =
-    (search rules, search rules, search rules, first_fits (policy_to _ _ _ _ (differs 1 c.byte.ensures.0 c.if-byte-eq1.false) (body-behind t c)) c.requires.3 c.obligations-own.ensures (concluded _ c.single-mid.ensures), search rules, c.requires.5)
+    (search rules, search rules, search rules, first_fits (policy_to _ _ _ _ (differs 1 c.byte.ensures.0 c.if-byte-eq1.false) (behind c.obligations-own.ensures)) c.requires.3 c.obligations-own.ensures (concluded _ c.single-mid.ensures), search rules, c.requires.5)
 
 pub body-returns : goal.body-returns
 body-returns t c =
-    three (policy_to _ _ _ _ (differs 1 c.byte.ensures.0 c.if-byte-eq1.false) (body-behind t c)) c.obligations-own.ensures (concluded _ c.single-mid.ensures) c.rules_in.ensures
+    three (policy_to _ _ _ _ (differs 1 c.byte.ensures.0 c.if-byte-eq1.false) (behind c.obligations-own.ensures)) c.obligations-own.ensures (concluded _ c.single-mid.ensures) c.rules_in.ensures
 
 pub tree-single-foot-requires : goal.tree-single-foot-requires
 tree-single-foot-requires t c = (third_fits (tree_parts _ _ _ _ _) _ c.requires.3, search rules, search rules)
@@ -125,10 +108,8 @@ within-applies-mid-requires t c =
 
 pub within-target-requires : goal.within-target-requires
 within-target-requires t c =
-    let far = within-behind t c in
-    (search rules, search rules, search rules, first_fits (within_to _ _ _ _ _ _ _ far.0 far.1) c.requires.3 c.body-low.ensures c.applies-mid.ensures, search rules, linked_below _ _ _ _ c.requires.5)
+    (search rules, search rules, search rules, first_fits (within_to _ _ _ _ _ _ _ (past_body _ c.body-low.ensures c.beyond-away.ensures) (past_both c.body-low.ensures c.applies-mid.ensures)) c.requires.3 c.body-low.ensures c.applies-mid.ensures, search rules, linked_below _ _ _ _ c.requires.5)
 
 pub within-returns : goal.within-returns
 within-returns t c =
-    let far = within-behind t c in
-    three (within_to _ _ _ _ _ _ _ far.0 far.1) c.body-low.ensures c.applies-mid.ensures c.target.ensures
+    three (within_to _ _ _ _ _ _ _ (past_body _ c.body-low.ensures c.beyond-away.ensures) (past_both c.body-low.ensures c.applies-mid.ensures)) c.body-low.ensures c.applies-mid.ensures c.target.ensures
