@@ -28,7 +28,7 @@ use Rattle.meaning.specs.declared.Verdict.TheVariants.{NotApplicable, Indetermin
 use Rattle.meaning.specs.declared.Algorithm.{Algorithm}
 use Rattle.weigh.specs.Two.{second_in}
 use Rattle.weigh.proofs.Laws.{few}
-use Rattle.algorithm.specs.Fold.{start, result, settled, absorb}
+use Rattle.algorithm.specs.Fold.{start, fold_result, settled, absorb}
 use Rattle.algorithm.specs.Tally.{verdict_so_far}
 use Rattle.algorithm.specs.declared.Acc.{Acc}
 use Rattle.algorithm.specs.declared.tally.Tally.{Tally}
@@ -205,7 +205,7 @@ unfolding ruled
 rules_all b g f a r er e = rw (e, ← er) (verdict_right a (rule_children g (rules_in b f)))
 
 pub rules_end : (b : List ℕ) (g : Bags) (i left : ℕ) (a : Algorithm) (acc : Acc) (cause : Cause) {d : Decision} {v w : Verdict} → left ≤ 0
-    → d ≡ result a acc → v ≡ coded d cause → ruled b g a acc cause (forest b i left) ≡ w → v ≡ w
+    → d ≡ fold_result a acc → v ≡ coded d cause → ruled b g a acc cause (forest b i left) ≡ w → v ≡ w
 unfolding ruled walks rule_children rules_in
 rules_end b g i left a acc cause h ed ev p = rw (ev, ed) (rw (forest_none b i left h) at p)
 
@@ -242,7 +242,7 @@ module _ (b : List ℕ) (g : Bags) (i left : ℕ) (a : Algorithm) (acc : Acc) (c
         rw et
         (rw (forest_more b i left some e, ← ek, q, walks_more a (record { acc = acc; cause = cause }) _ _ (takes_rule b g i (forest b (i + 1) (s - 1)) a acc cause o ec ef ev ed en ex ey)) at p)
 
-    pub rules_stop : {k : Decision} {r : Verdict} → t ≡ true → k ≡ result a x → r ≡ coded k y → r ≡ w
+    pub rules_stop : {k : Decision} {r : Verdict} → t ≡ true → k ≡ fold_result a x → r ≡ coded k y → r ≡ w
     unfolding next
     rules_stop z ek er = rw (er, ek) (rw z at more)
 
