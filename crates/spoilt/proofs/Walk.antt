@@ -92,10 +92,10 @@ pub record Passed (b : List ℕ) (i top d pn gc pc e : ℕ) (k : Kind) (c s g : 
   pub rank : g ≡ rank_of k c
 
 -- such a line, from what is known of each thing read
-pub passed : {b : List ℕ} {i top d pn gc pc e : ℕ} {t : Bool} {k : Kind} {c s g : ℕ} → i < top
+pub passed : (pc : ℕ) {b : List ℕ} {i top d pn gc e : ℕ} {t : Bool} {k : Kind} {c s g : ℕ} → i < top
     → t ≡ line_ok (parent d pn gc 0) e (record_at b i) (subtrees_of b (i + 1) (span_in b i (top - i) - 1)) → t ≡ true
     → k ≡ kind_at b i → c ≡ byte_of b i 4 → s ≡ span_of b i → g ≡ rank_of k c → Passed b i top d pn gc pc e k c s g
-passed {b} {i} {top} {d} {pn} {gc} {pc} {e} l et z ek ec es eg = record { keeps = kept b i top d pn gc pc e l et z; kind = ek; category = ec; span = es; rank = eg }
+passed pc {b} {i} {top} {d} {pn} {gc} {e} l et z ek ec es eg = record { keeps = kept b i top d pn gc pc e l et z; kind = ek; category = ec; span = es; rank = eg }
 
 -- a record that keeps the field rules has a number
 number_of : (b : List ℕ) (i : ℕ) (k : Kind) → rules_of b i k ≡ true → 1 ≤ kind_number k

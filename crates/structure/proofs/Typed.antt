@@ -26,7 +26,7 @@ use Rattle.meaning.specs.Typed.{Typed, TypedCondition, TypedConditions, TypedWhe
 use Rattle.meaning.proofs.Keys.{key_of_record}
 use Rattle.meaning.proofs.Typed.{eight}
 use Rattle.operands.specs.Operands.{value_type, operator_type, comparable_by, operands_ok}
-use Rattle.placement.specs.Place.{kind_number}
+use Rattle.placement.specs.Place.{kind_number, rank_at}
 use Rattle.judge.proofs.Sound.{top_kept}
 use Rattle.judge.proofs.Exactly.{accepted_keeps}
 use Rattle.structure.specs.Subtrees.{record_at, subtrees_in, subtrees_of}
@@ -52,7 +52,7 @@ sound_whole u e b none h = tt
 sound_whole u e b (node i kids rest) h =
     let z = sound_parts u e (record_at b i) (subtrees_in b kids) (subtrees_in b rest) h in
     let w = heads_same (record_at b i) 0 b i (record_bytes b i) _ (record_parts (record_at b i) _ z.0).1 in
-    (record { fields = w.fields; operands = z.2 }, sound_whole _ _ b kids z.3, sound_whole _ _ b rest z.4)
+    (record { fields = w.fields; operands = z.2 }, sound_whole (as_parent u (record_at b i) 0) 0 b kids z.3, sound_whole u (rank_at (record_at b i) 0) b rest z.4)
 
 -- the type of an operator, by its number
 operators : all_below (λ (k : ℕ). eqb (kind_of (operator_of (3 + k))) (operator_type (3 + k))) 6 ≡ true

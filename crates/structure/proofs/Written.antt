@@ -18,7 +18,8 @@ use Rattle.fields.proofs.First.{by}
 use Rattle.placement.specs.Keeps.{Keeps}
 use Rattle.judge.proofs.Exactly.{accepted_keeps, kept_is_accepted}
 use Rattle.structure.specs.Subtrees.{Subtrees, no_subtree, subtree, record_count, record_at, subtrees_of, bytes_of, spanned, whole_records, slice_of, SameRecord}
-use Rattle.structure.specs.Sound.{Parent, sound, sound_book}
+use Rattle.placement.specs.Place.{rank_at}
+use Rattle.structure.specs.Sound.{Parent, as_parent, sound, sound_book}
 use Rattle.structure.specs.Claims.{SoundIsAccepted, SoundIsReadBack, SpannedIsAccepted, AcceptedIsSound, SpannedIsReadBack, SoundIsSpanned, ReadIsWrittenBack}
 use Rattle.structure.proofs.Records.{span_same, record_parts}
 use Rattle.structure.proofs.Subtrees.{subtrees_none, subtrees_step, subtrees_stated, count_none, count_subtree, same_first, record_is}
@@ -36,7 +37,7 @@ sound_formed u e no_subtree h = formed_none
 sound_formed u e (subtree r kids rest) h =
     let z = sound_parts u e r kids rest h in
     let w = record_parts r (record_count kids) z.0 in
-    formed w.0 w.1.span (sound_formed _ 0 kids z.3) (sound_formed u _ rest z.4)
+    formed w.0 w.1.span (sound_formed (as_parent u r 0) 0 kids z.3) (sound_formed u (rank_at r 0) rest z.4)
 
 pub book_formed : (x : Subtrees) → sound_book x ≡ true → Formed x
 book_formed no_subtree h = formed_none
