@@ -15,7 +15,7 @@ pub overflow_add-m : goal.overflow_add-m
 overflow_add-m c = omega (arith, c.loop-left.invariant.2.kept, c.requires.1, put_room c.loop-left.invariant.2 c.loop-left-test.true c.span_in-s.ensures.0 c.is_due.ensures c.if-is_due.true)
 
 pub loop-left-preserved-then-is_due : goal.loop-left-preserved-then-is_due
-loop-left-preserved-then-is_due c = (omega arith, omega arith, put_turn c.loop-left.invariant.2 c.loop-left-test.true c.span_in-s.ensures.0 c.is_due.ensures c.if-is_due.true c.big2-x.ensures (slice-write-out c))
+loop-left-preserved-then-is_due c = (omega arith, omega arith, put_turn c.loop-left.invariant.2 c.loop-left-test.true c.span_in-s.ensures.0 c.is_due.ensures c.if-is_due.true c.big2-x.ensures (omega (arith, c.loop-left.invariant.2.kept, c.requires.1, put_room c.loop-left.invariant.2 c.loop-left-test.true c.span_in-s.ensures.0 c.is_due.ensures c.if-is_due.true)))
 
 pub loop-left-preserved : goal.loop-left-preserved
 loop-left-preserved c = (omega arith, omega arith, put_skip c.loop-left.invariant.2 c.loop-left-test.true c.span_in-s.ensures.0 c.is_due.ensures c.if-is_due.false)

@@ -1,10 +1,9 @@
-use mathlib.Core.Logic.{⊎_elim}
-use mathlib.Core.Path.{ap, ◌∙◌}
-use lib.ListN.{length}
+use mathlib.Core.Path.{◌∙◌}
 use borrow.Author.Tests.{not-true, not-false}
 use borrow.Author.Rules.{rules}
 use Rattle.run.proofs.Laws.{admit_parts, tick_request, tick_short, tick_refused, tick_ran, tick_bad, tick_running, tick_finished, count_small}
 use Rattle.run.proofs.tick.Goals as goal
+use Rattle.run.proofs.tick.Goals.{then-h, else-h}
 
 pub returns-in-Refused : goal.returns-in-Refused
 returns-in-Refused c = tick_request _ _ _ _ _ _ c.judge_request.ensures _ _ c.in-Refused.is c.refused.ensures
@@ -31,15 +30,12 @@ fill-requires c =
       c.if-out-lt-PLACES.false,
     )
 
-pub shape_of-out : goal.shape_of-out
-shape_of-out c = ⊎_elim (λ w. ap length w.8 ∙ w.5.kept.1.1.0) (λ w. ap length w.1) c.if-h.branch
-
 pub returns : goal.returns
 returns c =
     let ran = tick_ran _ _ _ _ c.args.out.now _ c.judge_request.ensures _ c.in_default.is c.if-out-lt-PLACES.false
     _ c.admits.ensures _ (not-false _ c.if-not-admits.false-raw) c.run-ran.ensures in
     let ok = not-false _ c.if-not-ran.false in
-    ⊎_elim
-    (λ w. tick_finished _ _ _ _ _ _ ran ok _ c.unpack-h.ensures _ c.answer.ensures _ _ w.3.ensures w.0.taken (w.8 ∙ w.5.ensures))
-    (λ w. tick_running _ _ _ _ _ _ ran ok _ c.unpack-h.ensures _ c.answer.ensures _ w.0.left w.1)
-    c.if-h.branch
+    elim c.if-h.branch [
+      then-h w ↦ tick_finished _ _ _ _ _ _ ran ok _ c.unpack-h.ensures _ c.answer.ensures _ _ w.count.ensures w.if-h.true (w.out-is ∙ w.fill.ensures)
+    | else-h w ↦ tick_running _ _ _ _ _ _ ran ok _ c.unpack-h.ensures _ c.answer.ensures _ w.if-h.false w.out-is
+    ]
