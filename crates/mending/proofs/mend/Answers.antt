@@ -23,14 +23,21 @@ first_bad-bad-requires c = let y = ends c.loop-i.invariant.5 c.loop-i-test.true 
 
 pub put_denial-requires : goal.put_denial-requires
 put_denial-requires c =
-    omega (arith, ends c.loop-i.invariant.5 c.loop-i-test.true c.span-lines.ensures.0, two_at_least c.loop-i.invariant.5 c.loop-i-test.true c.kind_at.ensures c.number-kind.ensures c.byte-c.ensures.0
-            c.span-lines.ensures.0 c.first_bad-bad.ensures.0 c.if-bad-next.true, c.loop-i.invariant.1, c.loop-i.invariant.3, c.requires.3)
+    omega (
+      arith,
+      ends c.loop-i.invariant.5 c.loop-i-test.true c.span-lines.ensures.0,
+      two_at_least c.loop-i.invariant.5 c.loop-i-test.true c.kind_at.ensures c.number-kind.ensures c.byte-c.ensures.0
+          c.span-lines.ensures.0 c.first_bad-bad.ensures.0 c.if-bad-next.true,
+      c.loop-i.invariant.1,
+      c.loop-i.invariant.3,
+      c.requires.3,
+    )
 
 pub put_replacement-requires : goal.put_replacement-requires
 put_replacement-requires c =
     let y = ends c.loop-i.invariant.5 c.loop-i-test.true c.span-lines.ensures.0 in
     let z = two_at_least c.loop-i.invariant.5 c.loop-i-test.true c.kind_at.ensures c.number-kind.ensures c.byte-c.ensures.0
-            c.span-lines.ensures.0 c.first_bad-bad.ensures.0 c.if-bad-next.true in
+    c.span-lines.ensures.0 c.first_bad-bad.ensures.0 c.if-bad-next.true in
     (omega (arith, c.loop-i.invariant.2, c.loop-i.invariant.4, c.requires.4), omega (arith, c.requires.2), omega (arith, c.requires.2))
 
 pub loop-i-smaller-then-bad-next : goal.loop-i-smaller-then-bad-next
@@ -42,7 +49,7 @@ pub loop-i-preserved-then-bad-next : goal.loop-i-preserved-then-bad-next
 loop-i-preserved-then-bad-next c =
     let y = ends c.loop-i.invariant.5 c.loop-i-test.true c.span-lines.ensures.0 in
     let z = two_at_least c.loop-i.invariant.5 c.loop-i-test.true c.kind_at.ensures c.number-kind.ensures c.byte-c.ensures.0
-            c.span-lines.ensures.0 c.first_bad-bad.ensures.0 c.if-bad-next.true in (
+    c.span-lines.ensures.0 c.first_bad-bad.ensures.0 c.if-bad-next.true in (
       omega arith,
       omega arith,
       omega arith,

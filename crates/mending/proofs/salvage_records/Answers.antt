@@ -23,15 +23,14 @@ returns-then-replaced-n c =
     c.if-line-n.false c.requires.2 c.if-out-book.false c.if-replaced-n.true c.no_room-then-replaced-n.ensures
 
 pub mend-done-requires : goal.mend-done-requires
-mend-done-requires c =
-    (
-      omega (arith, c.requires.2),
-      c.requires.0,
-      c.requires.1,
-      omega (arith, c.copy.auto.out, c.if-out-book.false, c.requires.2),
-      c.if-replaced-n.false,
-      omega (arith, c.if-line-n.false, c.first_spoilt-line.ensures.0),
-    )
+mend-done-requires c = (
+  omega (arith, c.requires.2),
+  c.requires.0,
+  c.requires.1,
+  omega (arith, c.copy.auto.out, c.if-out-book.false, c.requires.2),
+  c.if-replaced-n.false,
+  omega (arith, c.if-line-n.false, c.first_spoilt-line.ensures.0),
+)
 
 pub returns : goal.returns
 returns c =

@@ -22,15 +22,14 @@ returns-then-settles c =
     c.if-settles.true c.outcome.ensures c.coded.ensures
 
 pub loop-left-preserved : goal.loop-left-preserved
-loop-left-preserved c =
-    (
-      omega arith,
-      omega arith,
-      rules_turn _ _ _ _ _ _ _ c.loop-left-test.true c.span_in-s.ensures.0 c.byte-kind.ensures.0 c.loop-left.invariant.2 c.if-kind-ne3.false
-          (not_only _ (rules_by c.args.choice) c.over_rules-a.ensures) c.byte.ensures.0 c.effect_of-e.ensures c.rule-v.ensures
-          c.decision_in.ensures c.take_in-acc.ensures c.cause_in.ensures c.or_else-cause.ensures c.settles.ensures
-          c.if-settles.false,
-    )
+loop-left-preserved c = (
+  omega arith,
+  omega arith,
+  rules_turn _ _ _ _ _ _ _ c.loop-left-test.true c.span_in-s.ensures.0 c.byte-kind.ensures.0 c.loop-left.invariant.2 c.if-kind-ne3.false
+      (not_only _ (rules_by c.args.choice) c.over_rules-a.ensures) c.byte.ensures.0 c.effect_of-e.ensures c.rule-v.ensures
+      c.decision_in.ensures c.take_in-acc.ensures c.cause_in.ensures c.or_else-cause.ensures c.settles.ensures
+      c.if-settles.false,
+)
 
 pub returns : goal.returns
 returns c = rules_end _ _ _ _ _ _ _ c.loop-left-test.false c.outcome-2.ensures c.coded-2.ensures c.loop-left.invariant.2

@@ -24,11 +24,10 @@ returns-then-not-ran c =
     tick_bad _ _ _ _ _ _ ran _ _ (not-true _ c.if-not-ran.true) c.bad_run-outside.ensures c.refused-then-not-ran.ensures
 
 pub fill-requires : goal.fill-requires
-fill-requires c =
-    (
-      count_small _ _ _ _ _ _ _ _ c.admits.ensures (not-false _ c.if-not-admits.false-raw) c.run-ran.ensures c.unpack-h.ensures c.count.ensures,
-      c.if-out-lt-PLACES.false,
-    )
+fill-requires c = (
+  count_small _ _ _ _ _ _ _ _ c.admits.ensures (not-false _ c.if-not-admits.false-raw) c.run-ran.ensures c.unpack-h.ensures c.count.ensures,
+  c.if-out-lt-PLACES.false,
+)
 
 pub returns : goal.returns
 returns c =
@@ -36,6 +35,6 @@ returns c =
     _ c.admits.ensures _ (not-false _ c.if-not-admits.false-raw) c.run-ran.ensures in
     let ok = not-false _ c.if-not-ran.false in
     elim c.if-h.branch [
-      then-h w ↦ tick_finished _ _ _ _ _ _ ran ok _ c.unpack-h.ensures _ c.answer.ensures _ _ w.count.ensures w.if-h.true (w.out-is ∙ w.fill.ensures)
-    | else-h w ↦ tick_running _ _ _ _ _ _ ran ok _ c.unpack-h.ensures _ c.answer.ensures _ w.if-h.false w.out-is
+      | then-h w ↦ tick_finished _ _ _ _ _ _ ran ok _ c.unpack-h.ensures _ c.answer.ensures _ _ w.count.ensures w.if-h.true (w.out-is ∙ w.fill.ensures)
+      | else-h w ↦ tick_running _ _ _ _ _ _ ran ok _ c.unpack-h.ensures _ c.answer.ensures _ w.if-h.false w.out-is
     ]
