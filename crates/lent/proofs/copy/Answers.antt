@@ -1,8 +1,6 @@
-use Prim.Native.Nat.{◌≤◌, ◌-◌}
 use mathlib.Core.Path.{refl}
 use native.Mathlib.Omega.{arith}
-use borrow.Author.Rules.{rules}
-use Rattle.record.proofs.Filling.{Filled, fill_none, fill_more, copy_done}
+use Rattle.record.proofs.Filling.{fill_none, fill_more, copy_done}
 use Rattle.lent.proofs.copy.Goals as goal
 
 pub loop-i-init : goal.loop-i-init

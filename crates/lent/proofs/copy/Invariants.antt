@@ -1,8 +1,5 @@
 use Prim.Native.Nat.{◌≤◌, ◌-◌}
-use mathlib.Core.Path.{refl}
-use native.Mathlib.Omega.{arith}
-use borrow.Author.Rules.{rules}
-use Rattle.record.proofs.Filling.{Filled, fill_none, fill_more, copy_done}
+use Rattle.record.proofs.Filling.{Filled}
 use Rattle.lent.proofs.copy.Given as goal
 
 abbrev pub invariant-loop-i : goal.invariant-loop-i

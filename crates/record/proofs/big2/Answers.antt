@@ -1,5 +1,4 @@
 use native.Mathlib.Omega.{arith}
-use borrow.Author.Rules.{rules}
 use Rattle.record.proofs.Laws.{big_two}
 use Rattle.record.proofs.big2.Goals as goal
 

@@ -1,5 +1,4 @@
 use native.Mathlib.Omega.{arith}
-use borrow.Author.Rules.{rules}
 use Rattle.record.specs.Bytes.{span_of}
 use Rattle.record.proofs.span.Goals as goal
 

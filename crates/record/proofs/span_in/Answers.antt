@@ -1,5 +1,4 @@
 use native.Mathlib.Omega.{arith}
-use borrow.Author.Rules.{rules}
 use Rattle.record.specs.Forest.{span_in}
 use Rattle.record.proofs.span_in.Goals as goal
 

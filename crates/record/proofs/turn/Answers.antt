@@ -1,5 +1,4 @@
 use mathlib.Core.Path.{refl}
-use borrow.Author.Rules.{rules}
 use Rattle.record.specs.Bytes.{turned}
 use Rattle.record.proofs.turn.Goals as goal
 

@@ -1,4 +1,3 @@
-use borrow.Author.Rules.{rules}
 use Rattle.record.proofs.Laws.{turned_four}
 use Rattle.record.proofs.word.Goals as goal
 
