@@ -7,7 +7,7 @@ use native.Mathlib.Omega.{arith}
 use borrow.Author.Tests.{lt-ltb, le-ltb, ltb-true, ltb-false}
 use lib.Dec.{T, ltb, leb}
 use lib.Pow.{pow_pos}
-use lib.IntN.{ℤ, pos, negsuc, nat_abs, sub_ℕ, ◌+ℤ◌}
+use lib.IntN.{pos, negsuc, nat_abs, sub_ℕ, ◌+ℤ◌}
 use lib.Signed.{lt_z}
 use lib.Ieee.{Float, Format, nan, inf, fin, binary64, up, down, add, sum, round, units, of_bits}
 use lib.Ieee.Exact.{HasValue}

@@ -1,5 +1,5 @@
 -- Worked examples, computed.
-use Rattle.std.specs.Prelude.{◌≡◌, refl, ◌+◌, ◌-◌, ◌^◌, pos}
+use Rattle.std.specs.Prelude.{◌≡◌, refl, ◌+◌, ◌^◌, pos}
 use Rattle.std.specs.Float.{binary64}
 use Rattle.std.specs.Float.Ieee.{to_bits, of_bits, add, size}
 use Rattle.value.specs.Units.{units_of}

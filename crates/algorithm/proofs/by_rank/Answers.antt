@@ -1,4 +1,3 @@
-use borrow.Author.Rules.{rules}
 use Rattle.algorithm.proofs.by_rank.Goals as goal
 
 pub returns-in-RulesDeny : goal.returns-in-RulesDeny

@@ -1,4 +1,3 @@
-use borrow.Author.Rules.{rules}
 use Rattle.algorithm.proofs.outcome.Goals as goal
 
 pub returns-in-Ranked : goal.returns-in-Ranked

@@ -1,4 +1,3 @@
-use borrow.Author.Rules.{rules}
 use Rattle.algorithm.proofs.strength.Goals as goal
 
 pub returns-in-Indeterminate : goal.returns-in-Indeterminate

@@ -1,6 +1,5 @@
 use borrow.Author.Tests.{not-true, not-false}
 use Rattle.fields.proofs.Laws.{attribute_span, attribute_category, attribute_value, attribute_back, attribute_rest}
-use borrow.Author.Rules.{rules}
 use Rattle.fields.proofs.attribute_ok.Goals as goal
 
 pub returns-then-span-ne1 : goal.returns-then-span-ne1

@@ -1,5 +1,4 @@
 use Rattle.fields.proofs.Laws.{back_front, back_rest}
-use borrow.Author.Rules.{rules}
 use Rattle.fields.proofs.back_zero.Goals as goal
 
 pub returns-then-big8-ne0 : goal.returns-then-big8-ne0

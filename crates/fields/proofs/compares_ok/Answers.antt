@@ -1,6 +1,5 @@
 use borrow.Author.Tests.{not-true, not-false}
 use Rattle.fields.proofs.Laws.{compares_span, compares_category, compares_value, compares_function, compares_rest}
-use borrow.Author.Rules.{rules}
 use Rattle.fields.proofs.compares_ok.Goals as goal
 
 pub returns-then-span-ne1 : goal.returns-then-span-ne1

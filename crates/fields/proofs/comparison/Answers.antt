@@ -1,5 +1,4 @@
 use native.Mathlib.Omega.{arith}
-use borrow.Author.Rules.{rules}
 use Rattle.record.proofs.Choose.{below_among, above_among}
 use Rattle.fields.proofs.comparison.Goals as goal
 

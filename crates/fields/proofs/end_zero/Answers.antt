@@ -1,5 +1,4 @@
 use Rattle.fields.proofs.Laws.{end_is}
-use borrow.Author.Rules.{rules}
 use Rattle.fields.proofs.end_zero.Goals as goal
 
 pub returns : goal.returns

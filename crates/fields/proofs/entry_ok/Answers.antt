@@ -1,6 +1,5 @@
 use borrow.Author.Tests.{not-true, not-false}
 use Rattle.fields.proofs.Laws.{entry_category, entry_value, entry_front, entry_rest}
-use borrow.Author.Rules.{rules}
 use Rattle.fields.proofs.entry_ok.Goals as goal
 
 pub returns-then-not-category_ok : goal.returns-then-not-category_ok

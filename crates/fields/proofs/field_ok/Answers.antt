@@ -1,5 +1,4 @@
 use Rattle.fields.specs.Fields.{field_ok}
-use borrow.Author.Rules.{rules}
 use Rattle.fields.proofs.field_ok.Goals as goal
 
 pub returns : goal.returns

@@ -1,12 +1,7 @@
-use native.Mathlib.Omega.{arith}
-use mathlib.Core.Path.{◌≡◌, sym, ◌∙◌}
-use Prim.Native.Nat.{◌≤◌, ◌-◌, ◌+◌}
-use native.Mathlib.Nat.{sub-zero}
-use borrow.Author.Tests.{not-true, not-false}
+use mathlib.Core.Path.{◌≡◌}
+use Prim.Native.Nat.{◌≤◌, ◌-◌}
 use Rattle.fields.specs.First.{first_from}
 use Rattle.fields.specs.Entries.{entry_ok}
-use Rattle.fields.proofs.First.{first_none, first_here, first_next}
-use borrow.Author.Rules.{rules}
 use Rattle.fields.proofs.first_entry.Given as goal
 
 abbrev pub invariant-loop-i : goal.invariant-loop-i

@@ -1,10 +1,8 @@
 use native.Mathlib.Omega.{arith}
-use mathlib.Core.Path.{◌≡◌, sym, ◌∙◌}
-use Prim.Native.Nat.{◌≤◌, ◌-◌, ◌+◌}
+use mathlib.Core.Path.{sym, ◌∙◌}
+use Prim.Native.Nat.{◌-◌, ◌+◌}
 use native.Mathlib.Nat.{sub-zero}
 use borrow.Author.Tests.{not-true, not-false}
-use Rattle.fields.specs.First.{first_from}
-use Rattle.fields.specs.Fields.{field_ok, obligations_of}
 use Rattle.fields.proofs.Laws.{obligations_none, obligations_more}
 use Rattle.fields.proofs.First.{first_none, first_here, first_next}
 use borrow.Author.Rules.{rules}

@@ -1,4 +1,3 @@
-use borrow.Author.Rules.{rules}
 use Rattle.fields.proofs.function_ok.Goals as goal
 
 pub returns-in-Name : goal.returns-in-Name

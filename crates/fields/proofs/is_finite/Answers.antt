@@ -1,6 +1,5 @@
 use native.Mathlib.Omega.{arith}
 use Rattle.fields.proofs.Laws.{finite_bytes}
-use borrow.Author.Rules.{rules}
 use Rattle.fields.proofs.is_finite.Goals as goal
 
 pub returns : goal.returns

@@ -1,5 +1,4 @@
 use Rattle.fields.specs.Fields.{kind_at}
-use borrow.Author.Rules.{rules}
 use Rattle.fields.proofs.kind_at.Goals as goal
 
 pub returns : goal.returns

@@ -1,7 +1,6 @@
 use borrow.Author.Tests.{ne_eqb}
 use Rattle.fields.specs.Fields.{kind_of}
 use Rattle.fields.proofs.Laws.{not_logic, not_only}
-use borrow.Author.Rules.{rules}
 use Rattle.fields.proofs.kind_of.Goals as goal
 
 pub returns-in-1 : goal.returns-in-1

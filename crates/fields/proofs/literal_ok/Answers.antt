@@ -1,6 +1,5 @@
 use borrow.Author.Tests.{not-true, not-false}
 use Rattle.fields.proofs.Laws.{literal_span, literal_front, literal_value, literal_name, literal_rest}
-use borrow.Author.Rules.{rules}
 use Rattle.fields.proofs.literal_ok.Goals as goal
 
 pub returns-then-span-ne1 : goal.returns-then-span-ne1

@@ -1,5 +1,4 @@
 use Rattle.fields.proofs.Laws.{issuer_is}
-use borrow.Author.Rules.{rules}
 use Rattle.fields.proofs.no_issuer.Goals as goal
 
 pub returns : goal.returns

@@ -1,5 +1,4 @@
 use Rattle.fields.proofs.Laws.{obligation_span, obligation_front, obligation_rest}
-use borrow.Author.Rules.{rules}
 use Rattle.fields.proofs.obligation_ok.Goals as goal
 
 pub returns-then-span-ne1 : goal.returns-then-span-ne1

@@ -1,5 +1,4 @@
 use Rattle.fields.proofs.Laws.{plain_short, plain_front, plain_rest}
-use borrow.Author.Rules.{rules}
 use Rattle.fields.proofs.plain_ok.Goals as goal
 
 pub returns-then-span-s : goal.returns-then-span-s

@@ -1,6 +1,5 @@
 use borrow.Author.Tests.{not-true, not-false}
 use Rattle.fields.proofs.Laws.{section_short, section_category, section_type, section_name, section_rest}
-use borrow.Author.Rules.{rules}
 use Rattle.fields.proofs.section_ok.Goals as goal
 
 pub returns-then-span-lt2 : goal.returns-then-span-lt2

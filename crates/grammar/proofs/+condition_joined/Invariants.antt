@@ -1,11 +1,4 @@
-use borrow.Author.Tests.{not-false}
-use mathlib.Core.Path.{refl}
-use Rattle.grammar.proofs.Parts.{is_comparison, is_not, is_logic, not_span, one_of_many}
-use Rattle.grammar.proofs.Fits.{fits, fit_span}
-use Rattle.grammar.proofs.Rows.{row_none, row_then}
 use Rattle.grammar.specs.Row.{Row}
-use native.Mathlib.Omega.{arith}
-use borrow.Author.Rules.{rules}
 use Prim.Native.Nat.{ℕ, ◌+◌, ◌-◌, ◌*◌, ◌≤◌, ◌<◌}
 use Rattle.grammar.proofs.+condition_joined.Given as goal
 

@@ -3,8 +3,6 @@ use mathlib.Core.Path.{refl, sym, ◌∙◌}
 use Rattle.grammar.proofs.Fits.{fits}
 use Rattle.grammar.proofs.Values.{leaf_value, operands_are, is_operator_lem}
 use native.Mathlib.Omega.{arith}
-use borrow.Author.Rules.{rules}
-use Prim.Native.Nat.{ℕ, ◌+◌, ◌-◌, ◌*◌, ◌<◌}
 use Rattle.grammar.proofs.+operands_value.Goals as goal
 
 pub operands-returns-then-end-next : goal.operands-returns-then-end-next

@@ -1,10 +1,4 @@
-use borrow.Author.Tests.{not-false}
-use mathlib.Core.Path.{refl, sym, ◌∙◌}
-use Rattle.grammar.proofs.Fits.{fits}
-use Rattle.grammar.proofs.Values.{leaf_value, operands_are, is_operator_lem}
-use native.Mathlib.Omega.{arith}
-use borrow.Author.Rules.{rules}
-use Prim.Native.Nat.{ℕ, ◌+◌, ◌-◌, ◌*◌, ◌<◌}
+use Prim.Native.Nat.{◌+◌, ◌-◌, ◌*◌}
 use Rattle.grammar.proofs.+operands_value.Given as goal
 
 abbrev pub decreases-operands : goal.decreases-operands

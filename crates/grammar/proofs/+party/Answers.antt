@@ -1,15 +1,11 @@
 use Rattle.grammar.proofs.Rows.{row_none, row_then, row_lower, row_due}
 use Rattle.grammar.proofs.Parties.{party_is, party_next}
 use Rattle.grammar.proofs.Fits.{fits, fit_span}
-use Rattle.grammar.specs.Row.{Row}
 use Rattle.fields.specs.declared.Kind.TheVariants.{PolicySet, Policy}
 use borrow.Author.Tests.{not-false}
 use mathlib.Core.Logic.{inl, inr}
 use mathlib.Core.Path.{refl}
-use Prim.Native.Nat.{◌+◌, ◌-◌, ◌≤◌}
 use native.Mathlib.Omega.{arith}
-use borrow.Author.Rules.{rules}
-use Prim.Native.Nat.{ℕ, ◌<◌}
 use Rattle.grammar.proofs.+party.Goals as goal
 
 pub returns-then-top-next : goal.returns-then-top-next

@@ -2,13 +2,9 @@ use Rattle.grammar.proofs.Fits.{fits}
 use Rattle.record.proofs.Choose.{no_false}
 use Rattle.grammar.proofs.Children.{match_more}
 use Rattle.grammar.proofs.Rows.{row_none}
-use Rattle.grammar.specs.Row.{Row}
-use Rattle.placement.specs.Place.{most_depth}
 use borrow.Author.Tests.{not-false}
-use Prim.Native.Nat.{ℕ, ◌≤◌, ◌<◌, ◌-◌}
 use mathlib.Core.Path.{◌≡◌, refl}
 use native.Mathlib.Omega.{arith}
-use borrow.Author.Rules.{rules}
 use Rattle.grammar.proofs.matches.Goals as goal
 
 pub loop-i-init : goal.loop-i-init

@@ -1,7 +1,6 @@
 use Rattle.grammar.proofs.Parties.{row_clean}
 use mathlib.Core.Path.{sym, ◌∙◌}
 use native.Mathlib.Omega.{arith}
-use borrow.Author.Rules.{rules}
 use Rattle.grammar.proofs.obligations.Goals as goal
 
 pub returns-then-span-n : goal.returns-then-span-n

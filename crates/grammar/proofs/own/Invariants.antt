@@ -1,14 +1,8 @@
-use Rattle.grammar.proofs.Fits.{fits}
-use Rattle.grammar.proofs.Children.{own_more}
-use Rattle.grammar.proofs.Rows.{row_none}
 use Rattle.grammar.specs.Row.{Row}
 use Rattle.record.specs.Choose.{among}
-use borrow.Author.Tests.{not-false}
 use Prim.Native.Nat.{ℕ, ◌≤◌, ◌-◌}
 use mathlib.Core.Bool.{true}
-use mathlib.Core.Path.{◌≡◌, refl}
-use native.Mathlib.Omega.{arith}
-use borrow.Author.Rules.{rules}
+use mathlib.Core.Path.{◌≡◌}
 use Rattle.grammar.proofs.own.Given as goal
 
 abbrev pub invariant-loop-i : goal.invariant-loop-i

@@ -1,7 +1,6 @@
 use Rattle.grammar.proofs.Parts.{policy_row}
 use mathlib.Core.Path.{refl}
 use native.Mathlib.Omega.{arith}
-use borrow.Author.Rules.{rules}
 use Rattle.grammar.proofs.policy_parts.Goals as goal
 
 pub returns-then-first-eq0 : goal.returns-then-first-eq0

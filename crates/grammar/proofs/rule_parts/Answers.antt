@@ -3,7 +3,6 @@ use Rattle.grammar.proofs.Parts.{without_condition, with_condition}
 use borrow.Author.Tests.{eqb-true}
 use mathlib.Core.Path.{refl}
 use native.Mathlib.Omega.{arith}
-use borrow.Author.Rules.{rules}
 use Rattle.grammar.proofs.rule_parts.Goals as goal
 
 pub returns-then-at-eq0 : goal.returns-then-at-eq0

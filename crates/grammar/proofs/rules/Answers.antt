@@ -1,12 +1,9 @@
 use Rattle.grammar.proofs.Parts.{rule_more}
 use Rattle.grammar.proofs.Fits.{fits, fit_span}
 use Rattle.grammar.proofs.Rows.{row_none}
-use Rattle.grammar.specs.Row.{Row}
 use borrow.Author.Tests.{not-false}
 use mathlib.Core.Path.{refl}
-use borrow.Author.Rules.{rules}
 use native.Mathlib.Omega.{arith}
-use Prim.Native.Nat.{ℕ, ◌-◌, ◌≤◌}
 use Rattle.grammar.proofs.rules.Goals as goal
 
 pub loop-i-init : goal.loop-i-init

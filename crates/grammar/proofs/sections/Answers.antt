@@ -1,7 +1,6 @@
 use Rattle.grammar.proofs.Rows.{row_none}
 use mathlib.Core.Path.{refl}
 use native.Mathlib.Omega.{arith}
-use borrow.Author.Rules.{rules}
 use Rattle.grammar.proofs.sections.Goals as goal
 
 pub returns-then-from-end : goal.returns-then-from-end

@@ -3,7 +3,6 @@ use mathlib.Core.Path.{sym, ◌∙◌}
 use native.Mathlib.Omega.{arith}
 use Rattle.grammar.proofs.Fits.{fits}
 use Rattle.grammar.proofs.Values.{is_weighing_lem}
-use borrow.Author.Rules.{rules}
 use Rattle.grammar.proofs.weighing.Goals as goal
 
 pub returns-then-not-is_weighing : goal.returns-then-not-is_weighing

@@ -1,5 +1,4 @@
 use Rattle.judge.proofs.Answers.{some_ltb, none_ltb}
-use borrow.Author.Rules.{rules}
 use native.Mathlib.Omega.{arith}
 use borrow.Author.Tests.{lt-ltb, le-ltb, eq-eqb, ne_eqb}
 use Prim.Native.Nat.{◌*◌}

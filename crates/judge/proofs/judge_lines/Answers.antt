@@ -1,6 +1,5 @@
 use Rattle.judge.proofs.Answers.{accepts}
 use mathlib.Core.Path.{sym, ◌∙◌}
-use borrow.Author.Rules.{rules}
 use native.Mathlib.Omega.{arith}
 use borrow.Author.Tests.{lt-ltb, le-ltb}
 use Rattle.judge.specs.Judge.{judge_records}

@@ -1,6 +1,5 @@
 use Rattle.judge.proofs.Answers.{clean_accepted}
 use native.Mathlib.Omega.{arith}
-use borrow.Author.Rules.{rules}
 use Rattle.judge.proofs.judge_records.Goals as goal
 
 pub returns : goal.returns

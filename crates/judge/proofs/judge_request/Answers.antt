@@ -5,7 +5,6 @@ use native.Mathlib.Omega.{arith}
 use borrow.Author.Tests.{lt-ltb, le-ltb}
 use Rattle.record.specs.Bytes.{size, most_entries}
 use Rattle.judge.specs.Request.{judge_entries, judge_request_of}
-use borrow.Author.Rules.{rules}
 use Rattle.judge.proofs.judge_request.Goals as goal
 
 pub returns-then-request-ne0 : goal.returns-then-request-ne0

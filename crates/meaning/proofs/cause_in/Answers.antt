@@ -1,4 +1,3 @@
-use borrow.Author.Rules.{rules}
 use Rattle.meaning.proofs.cause_in.Goals as goal
 
 pub returns-in-Indeterminate : goal.returns-in-Indeterminate

@@ -1,4 +1,3 @@
-use borrow.Author.Rules.{rules}
 use Rattle.meaning.proofs.coded.Goals as goal
 
 pub returns-in-By : goal.returns-in-By

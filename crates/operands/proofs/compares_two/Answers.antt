@@ -1,6 +1,5 @@
 use borrow.Author.Tests.{not-true, not-false}
 use Rattle.operands.proofs.Lookahead.{none_below, not_comparable, compares_both}
-use borrow.Author.Rules.{rules}
 use Rattle.operands.proofs.compares_two.Goals as goal
 
 pub returns-then-end-i : goal.returns-then-end-i

@@ -1,4 +1,3 @@
-use borrow.Author.Rules.{rules}
 use Rattle.operands.proofs.operands_of.Goals as goal
 
 pub returns-in-PolicySet : goal.returns-in-PolicySet

@@ -1,5 +1,4 @@
 use Rattle.operands.specs.Operands.{operands_at}
-use borrow.Author.Rules.{rules}
 use Rattle.operands.proofs.operands_ok.Goals as goal
 
 pub returns : goal.returns

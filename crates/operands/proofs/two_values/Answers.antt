@@ -1,11 +1,7 @@
-use mathlib.Core.Path.{◌≡◌}
-use Prim.Native.Nat.{◌-◌, ◌≤◌, ◌<◌}
+use Prim.Native.Nat.{◌<◌}
 use native.Mathlib.Omega.{arith}
-use borrow.Author.Rules.{rules}
-use Rattle.fields.specs.First.{count_below}
 use Rattle.operands.specs.Parent.{end_of}
-use Rattle.operands.specs.Operands.{is_child, is_operand}
-use Rattle.operands.proofs.Lookahead.{Reach, reach_none, reach_more, child_none, child_more, operand_none, operand_more, not_two, two_of_lem}
+use Rattle.operands.proofs.Lookahead.{reach_none, reach_more, child_none, child_more, operand_none, operand_more, not_two, two_of_lem}
 use Rattle.operands.proofs.two_values.Goals as goal
 
 pub loop-j-init : goal.loop-j-init

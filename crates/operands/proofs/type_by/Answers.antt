@@ -1,4 +1,3 @@
-use borrow.Author.Rules.{rules}
 use Rattle.operands.proofs.type_by.Goals as goal
 
 pub returns-in-Operator : goal.returns-in-Operator

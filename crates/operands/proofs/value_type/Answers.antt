@@ -1,5 +1,4 @@
 use Rattle.operands.specs.Operands.{value_type}
-use borrow.Author.Rules.{rules}
 use Rattle.operands.proofs.value_type.Goals as goal
 
 pub returns : goal.returns

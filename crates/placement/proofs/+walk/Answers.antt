@@ -1,12 +1,9 @@
-use Prim.Native.Nat.{ℕ, ◌≤◌, ◌<◌, ◌+◌, ◌-◌}
+use Prim.Native.Nat.{◌-◌}
 use mathlib.Core.Path.{◌≡◌, refl, ◌∙◌}
-use Rattle.fields.specs.First.{first_from}
 use Rattle.fields.proofs.First.{first_none}
 use Rattle.placement.specs.Place.{place_ok}
-use Rattle.placement.specs.Walk.{Walk}
-use Rattle.placement.proofs.Laws.{Passed, ends_after, stop_here, passed, bounds, kids, stop_in, rest, go_on, found, found_none, found_leaf}
+use Rattle.placement.proofs.Laws.{ends_after, stop_here, passed, bounds, kids, stop_in, rest, go_on, found, found_none, found_leaf}
 use native.Mathlib.Omega.{arith}
-use borrow.Author.Rules.{rules}
 use Rattle.placement.proofs.+walk.Goals as goal
 
 pub loop-i-init : goal.loop-i-init

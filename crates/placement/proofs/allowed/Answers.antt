@@ -1,6 +1,5 @@
 use native.Mathlib.Omega.{arith}
 use borrow.Author.Tests.{not-true, not-false}
-use borrow.Author.Rules.{rules}
 use Rattle.placement.proofs.allowed.Goals as goal
 
 pub returns-then-top-end : goal.returns-then-top-end

@@ -1,7 +1,6 @@
 use Rattle.placement.proofs.Laws.{top_kind, top_span, top_walk, top_rest}
 use borrow.Author.Tests.{not-true, not-false}
 use native.Mathlib.Omega.{arith}
-use borrow.Author.Rules.{rules}
 use Rattle.placement.proofs.first_place.Goals as goal
 
 pub returns-then-not-up_to : goal.returns-then-not-up_to

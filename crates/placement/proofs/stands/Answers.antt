@@ -1,6 +1,5 @@
 use Rattle.placement.proofs.Laws.{not_taken, not_after, all_but}
 use borrow.Author.Tests.{not-true, not-false}
-use borrow.Author.Rules.{rules}
 use Rattle.placement.proofs.stands.Goals as goal
 
 pub returns-then-not-takes : goal.returns-then-not-takes

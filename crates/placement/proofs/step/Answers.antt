@@ -1,4 +1,3 @@
-use borrow.Author.Rules.{rules}
 use Rattle.placement.proofs.step.Goals as goal
 
 pub returns-in-Logic : goal.returns-in-Logic

@@ -1,4 +1,3 @@
-use borrow.Author.Rules.{rules}
 use Rattle.placement.proofs.under_ok.Goals as goal
 
 pub returns-in-Match : goal.returns-in-Match

@@ -2,7 +2,6 @@ use mathlib.Core.Path.{sym, ◌∙◌}
 use native.Mathlib.Nat.{pos_of_ne-zero}
 use native.Mathlib.Omega.{arith}
 use Rattle.sums.proofs.Sizes.{mul_zero, mul_fails, mul_ends, read_size, under}
-use borrow.Author.Rules.{rules}
 use Rattle.sums.proofs.mul.Goals as goal
 
 pub returns-then-a-eq0 : goal.returns-then-a-eq0

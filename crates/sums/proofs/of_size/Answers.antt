@@ -2,7 +2,6 @@ use Prim.Native.Nat.{◌-◌}
 use native.Mathlib.Omega.{arith}
 use Rattle.sums.proofs.Signed.{first_fits, second_fits}
 use Rattle.sums.proofs.Sizes.{minus_fails, minus_is, plus_fails, plus_is}
-use borrow.Author.Rules.{rules}
 use Rattle.sums.proofs.of_size.Goals as goal
 
 pub returns-then-n-gt9223372036854775808 : goal.returns-then-n-gt9223372036854775808

@@ -1,5 +1,4 @@
 use mathlib.Core.Path.{sym, ◌∙◌}
-use borrow.Author.Rules.{rules}
 use borrow.Author.Tests.{not-true, not-false}
 use lib.Ieee.{nan_bits}
 use Rattle.value.proofs.Laws.{finite_no_nan, is_finite}

@@ -1,6 +1,5 @@
 -- `sums::rem` meets its contract (`proofs/Quot.antt`). Assumes nothing.
 use mathlib.Core.Path.{refl}
-use borrow.Author.Rules.{rules}
 use Rattle.sums.proofs.Quot.{rem_zero, rem_is}
 use Rattle.sums.proofs.rem.Goals as goal
 

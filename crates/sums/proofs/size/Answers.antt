@@ -1,5 +1,4 @@
 use Rattle.sums.proofs.Sizes.{more_fits, back_fits, back_cast, size_fits, size_is, pos_cast}
-use borrow.Author.Rules.{rules}
 use Rattle.sums.proofs.size.Goals as goal
 
 pub overflow_add-result : goal.overflow_add-result

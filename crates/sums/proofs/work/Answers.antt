@@ -1,5 +1,4 @@
 use mathlib.Core.Path.{sym, ap, ◌∙◌}
-use borrow.Author.Rules.{rules}
 use Rattle.value.specs.Value.{value_of}
 use Rattle.sums.specs.declared.Word.TheVariants.{Holds}
 use Rattle.sums.specs.Sums.{kind_of, in_bytes}

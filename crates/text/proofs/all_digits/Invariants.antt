@@ -1,11 +1,7 @@
-use borrow.Author.Rules.{rules}
-use native.Mathlib.Omega.{arith}
-use mathlib.Core.Path.{◌≡◌, refl, sym, ◌∙◌}
+use mathlib.Core.Path.{◌≡◌}
 use mathlib.Core.Bool.{true}
 use Prim.Native.Nat.{◌≤◌, ◌-◌}
-use borrow.Author.Tests.{not-true, not-false}
 use Rattle.record.specs.Below.{all_below}
-use Rattle.record.proofs.Below.{all_more, all_false}
 use Rattle.text.specs.Text.{digit_at}
 use Rattle.text.proofs.all_digits.Given as goal
 

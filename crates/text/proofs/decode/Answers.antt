@@ -1,11 +1,9 @@
 use borrow.Author.Rules.{rules}
 use native.Mathlib.Omega.{arith}
-use Prim.Native.Nat.{◌≤◌, ◌-◌, ◌/◌}
+use Prim.Native.Nat.{◌/◌}
 use mathlib.Core.Path.{refl}
 use Rattle.record.specs.Bytes.{size}
-use Rattle.record.specs.Table.{tab}
-use Rattle.record.proofs.Filling.{Filled, fill_none, tab_more, tab_done}
-use Rattle.text.specs.Text.{byte_at}
+use Rattle.record.proofs.Filling.{fill_none, tab_more, tab_done}
 use Rattle.text.proofs.Widths.{start_below}
 use Rattle.text.proofs.decode.Goals as goal
 

@@ -1,12 +1,7 @@
-use borrow.Author.Rules.{rules}
-use native.Mathlib.Omega.{arith}
-use Prim.Native.Nat.{◌≤◌, ◌-◌, ◌/◌}
-use mathlib.Core.Path.{refl}
-use Rattle.record.specs.Bytes.{size}
+use Prim.Native.Nat.{◌≤◌, ◌-◌}
 use Rattle.record.specs.Table.{tab}
-use Rattle.record.proofs.Filling.{Filled, fill_none, tab_more, tab_done}
+use Rattle.record.proofs.Filling.{Filled}
 use Rattle.text.specs.Text.{byte_at}
-use Rattle.text.proofs.Widths.{start_below}
 use Rattle.text.proofs.decode.Given as goal
 
 abbrev pub invariant-loop-i : goal.invariant-loop-i

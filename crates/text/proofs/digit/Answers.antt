@@ -1,4 +1,3 @@
-use borrow.Author.Rules.{rules}
 use native.Mathlib.Omega.{arith}
 use Rattle.record.proofs.Choose.{below_among, above_among}
 use Rattle.text.proofs.Laws.{digit_number, digit_capital, digit_small, digit_none}

@@ -1,10 +1,7 @@
 use borrow.Author.Rules.{rules}
 use native.Mathlib.Omega.{arith}
-use Prim.Native.Nat.{◌≤◌, ◌-◌}
 use mathlib.Core.Path.{refl}
-use Rattle.record.specs.Table.{tab}
-use Rattle.record.proofs.Filling.{Filled, fill_none, tab_more, tab_done}
-use Rattle.text.specs.Text.{text_at}
+use Rattle.record.proofs.Filling.{fill_none, tab_more, tab_done}
 use Rattle.text.proofs.encode.Goals as goal
 
 pub loop-j-init : goal.loop-j-init

@@ -1,9 +1,6 @@
-use borrow.Author.Rules.{rules}
-use native.Mathlib.Omega.{arith}
 use Prim.Native.Nat.{◌≤◌, ◌-◌}
-use mathlib.Core.Path.{refl}
 use Rattle.record.specs.Table.{tab}
-use Rattle.record.proofs.Filling.{Filled, fill_none, tab_more, tab_done}
+use Rattle.record.proofs.Filling.{Filled}
 use Rattle.text.specs.Text.{text_at}
 use Rattle.text.proofs.encode.Given as goal
 

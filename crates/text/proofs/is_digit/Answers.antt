@@ -1,4 +1,3 @@
-use borrow.Author.Rules.{rules}
 use mathlib.Core.Path.{sym, ap, ◌∙◌}
 use Rattle.text.specs.Hex.{is_digit, is_value}
 use Rattle.text.proofs.is_digit.Goals as goal

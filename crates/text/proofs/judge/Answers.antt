@@ -1,11 +1,9 @@
 use borrow.Author.Rules.{rules}
 use native.Mathlib.Omega.{arith}
 use mathlib.Core.Path.{◌≡◌, sym, ◌∙◌}
-use Prim.Native.Nat.{◌≤◌, ◌-◌, ◌+◌}
+use Prim.Native.Nat.{◌-◌, ◌+◌}
 use native.Mathlib.Nat.{sub-zero}
-use lib.ListN.{length}
 use borrow.Author.Tests.{not-true, not-false}
-use Rattle.text.specs.Text.{start, judge_from}
 use Rattle.text.proofs.Widths.{start_none, start_more}
 use Rattle.text.proofs.Lined.{judge_end, judge_over, judge_wrong, judge_more, good_within}
 use Rattle.text.proofs.judge.Goals as goal

@@ -1,4 +1,3 @@
-use borrow.Author.Rules.{rules}
 use Rattle.text.proofs.missing.Goals as goal
 
 pub returns : goal.returns

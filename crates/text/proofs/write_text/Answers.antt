@@ -1,6 +1,5 @@
 use mathlib.Core.Path.{refl, sym, ap, ◌∙◌}
 use native.Mathlib.Omega.{arith}
-use borrow.Author.Rules.{rules}
 use Rattle.text.specs.declared.Filled.TheVariants.{Refused}
 use Rattle.text.specs.Text.{output_after}
 use Rattle.text.proofs.Answers.{write_missing, write_cut, write_many, write_short, write_done}

@@ -1,8 +1,7 @@
 use borrow.Author.Rules.{rules}
 use native.Mathlib.Omega.{arith}
-use Prim.Native.Nat.{◌≤◌, ◌-◌}
 use Rattle.record.proofs.Filling.{fill_none}
-use Rattle.text.proofs.Zeroed.{Lit, lit_more, lit_done}
+use Rattle.text.proofs.Zeroed.{lit_more, lit_done}
 use Rattle.text.proofs.zero_line.Goals as goal
 
 pub loop-i-init : goal.loop-i-init

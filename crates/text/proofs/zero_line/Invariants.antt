@@ -1,8 +1,5 @@
-use borrow.Author.Rules.{rules}
-use native.Mathlib.Omega.{arith}
 use Prim.Native.Nat.{◌≤◌, ◌-◌}
-use Rattle.record.proofs.Filling.{fill_none}
-use Rattle.text.proofs.Zeroed.{Lit, lit_more, lit_done}
+use Rattle.text.proofs.Zeroed.{Lit}
 use Rattle.text.proofs.zero_line.Given as goal
 
 abbrev pub invariant-loop-i : goal.invariant-loop-i

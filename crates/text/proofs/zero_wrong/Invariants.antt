@@ -1,9 +1,6 @@
-use borrow.Author.Rules.{rules}
-use native.Mathlib.Omega.{arith}
 use Prim.Native.Nat.{◌-◌}
 use lib.ListN.{length}
-use Rattle.text.proofs.Widths.{width_within}
-use Rattle.text.proofs.Zeroed.{Zeroing, zeroing_none, zeroing_more, zeroing_done}
+use Rattle.text.proofs.Zeroed.{Zeroing}
 use Rattle.text.proofs.zero_wrong.Given as goal
 
 abbrev pub invariant-loop-at : goal.invariant-loop-at

@@ -5,7 +5,6 @@ use native.Mathlib.Omega.{arith}
 use mir.Syntax.{w64}
 use mir.Facts.{to_z_pos}
 use Rattle.value.proofs.Halves.{low, high, below_fits, below_gives}
-use borrow.Author.Rules.{rules}
 use Rattle.value.proofs.signed.Goals as goal
 
 pub overflow_sub-result : goal.overflow_sub-result

@@ -1,4 +1,3 @@
-use borrow.Author.Rules.{rules}
 use Rattle.algorithm.proofs.tally.begin.Goals as goal
 
 pub returns : goal.returns

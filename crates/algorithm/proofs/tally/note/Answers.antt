@@ -1,4 +1,3 @@
-use borrow.Author.Rules.{rules}
 use Rattle.algorithm.proofs.tally.note.Goals as goal
 
 pub returns-then-only : goal.returns-then-only

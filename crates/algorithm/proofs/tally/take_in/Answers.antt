@@ -1,4 +1,3 @@
-use borrow.Author.Rules.{rules}
 use Rattle.algorithm.proofs.tally.take_in.Goals as goal
 
 pub returns : goal.returns

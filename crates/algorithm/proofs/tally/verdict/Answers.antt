@@ -1,4 +1,3 @@
-use borrow.Author.Rules.{rules}
 use Rattle.algorithm.proofs.tally.verdict.Goals as goal
 
 pub returns : goal.returns

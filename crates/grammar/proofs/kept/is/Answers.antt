@@ -1,5 +1,4 @@
 use borrow.Author.Tests.{eq-eqb, ne_eqb, le-leb, lt-leb}
-use borrow.Author.Rules.{rules}
 use Rattle.grammar.proofs.kept.is.Goals as goal
 
 pub returns-then-byte-kind : goal.returns-then-byte-kind

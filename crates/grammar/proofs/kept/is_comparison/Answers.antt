@@ -2,7 +2,6 @@ use native.Mathlib.Omega.{arith}
 use Rattle.fields.specs.declared.Kind.TheVariants.{Comparison}
 use Rattle.grammar.proofs.Fits.{unlisted, listed, lowest}
 use borrow.Author.Tests.{not-true, not-false}
-use borrow.Author.Rules.{rules}
 use Rattle.grammar.proofs.kept.is_comparison.Goals as goal
 
 pub returns-then-not-is : goal.returns-then-not-is

@@ -1,6 +1,5 @@
 use Rattle.grammar.proofs.Fits.{unlisted, listed}
 use borrow.Author.Tests.{not-true, not-false}
-use borrow.Author.Rules.{rules}
 use Rattle.grammar.proofs.kept.is_literal.Goals as goal
 
 pub returns-then-not-is : goal.returns-then-not-is
