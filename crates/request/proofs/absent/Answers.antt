@@ -1,4 +1,3 @@
-use borrow.Author.Rules.{rules}
 use Rattle.request.proofs.absent.Goals as goal
 
 pub returns-then-must : goal.returns-then-must

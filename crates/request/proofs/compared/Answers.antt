@@ -1,4 +1,3 @@
-use borrow.Author.Rules.{rules}
 use Rattle.request.proofs.compared.Goals as goal
 
 pub returns : goal.returns

@@ -1,4 +1,3 @@
-use borrow.Author.Rules.{rules}
 use Rattle.meaning.specs.Meaning.{comparison_of}
 use Rattle.request.proofs.comparison.Goals as goal
 

@@ -1,5 +1,4 @@
 use Rattle.meaning.specs.Meaning.{gives}
-use borrow.Author.Rules.{rules}
 use Rattle.request.proofs.holds.Goals as goal
 
 pub returns : goal.returns

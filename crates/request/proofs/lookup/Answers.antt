@@ -1,4 +1,3 @@
-use borrow.Author.Rules.{rules}
 use Rattle.request.proofs.Laws.{bag_empty, bag_several, bag_one}
 use Rattle.request.proofs.lookup.Goals as goal
 

@@ -1,12 +1,6 @@
-use borrow.Author.Rules.{rules}
 use native.Mathlib.Omega.{arith}
-use mathlib.Core.Path.{◌≡◌, refl}
-use Prim.Native.Nat.{◌-◌}
-use Rattle.meaning.specs.Meaning.{match_of}
-use Rattle.meaning.specs.Numbers.{key_of}
-use Rattle.meaning.specs.Reading.{bags_of}
-use Rattle.request.specs.Bag.{entries_of}
-use Rattle.request.proofs.Laws.{next_forth, next_has, Has, still_of, match_empty, match_begins, match_end, match_true, match_false}
+use mathlib.Core.Path.{refl}
+use Rattle.request.proofs.Laws.{next_forth, next_has, match_empty, match_begins, match_end, match_true, match_false}
 use Rattle.request.proofs.matches.Goals as goal
 
 pub returns-then-total-k : goal.returns-then-total-k

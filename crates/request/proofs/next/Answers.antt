@@ -1,8 +1,5 @@
 use borrow.Author.Rules.{rules}
-use mathlib.Core.Path.{◌≡◌, refl, ◌∙◌}
-use Prim.Native.Nat.{◌-◌}
-use Rattle.meaning.specs.Numbers.{key_by}
-use Rattle.request.specs.Bag.{entries_of, next_of}
+use mathlib.Core.Path.{refl, ◌∙◌}
 use Rattle.request.proofs.Laws.{next_here, next_further, next_none}
 use Rattle.request.proofs.next.Goals as goal
 

@@ -1,9 +1,7 @@
-use borrow.Author.Rules.{rules}
-use mathlib.Core.Path.{◌≡◌, refl, ◌∙◌}
+use mathlib.Core.Path.{◌≡◌}
 use Prim.Native.Nat.{◌-◌}
 use Rattle.meaning.specs.Numbers.{key_by}
 use Rattle.request.specs.Bag.{entries_of, next_of}
-use Rattle.request.proofs.Laws.{next_here, next_further, next_none}
 use Rattle.request.proofs.next.Given as goal
 
 abbrev pub invariant-loop-k : goal.invariant-loop-k

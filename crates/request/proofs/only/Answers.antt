@@ -1,4 +1,3 @@
-use borrow.Author.Rules.{rules}
 use Rattle.request.proofs.OneOnly.{one_number}
 use Rattle.request.proofs.only.Goals as goal
 

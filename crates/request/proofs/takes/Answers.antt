@@ -1,5 +1,4 @@
 use native.Mathlib.Omega.{arith}
-use borrow.Author.Rules.{rules}
 use borrow.Author.Tests.{not-true, not-false}
 use Rattle.request.proofs.Laws.{takes_apart, takes_by}
 use Rattle.request.proofs.takes.Goals as goal

@@ -1,5 +1,4 @@
 use Rattle.meaning.specs.Numbers.{key_by}
-use borrow.Author.Rules.{rules}
 use Rattle.request.proofs.value_under.Goals as goal
 
 pub returns : goal.returns
