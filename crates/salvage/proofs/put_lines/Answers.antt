@@ -1,12 +1,8 @@
 use borrow.Author.Rules.{rules}
 use native.Mathlib.Nat.{sub-zero}
 use native.Mathlib.Omega.{arith}
-use mathlib.Core.Path.{◌≡◌, refl, ◌∙◌}
-use Prim.Native.Nat.{◌≤◌, ◌-◌, ◌*◌}
-use lib.ListN.{length, length-set}
-use Rattle.record.specs.Stored.{stored}
-use Rattle.salvage.specs.Salvage.{lines_of}
-use Rattle.salvage.specs.Places.{replacements_at}
+use mathlib.Core.Path.{refl, ◌∙◌}
+use lib.ListN.{length-set}
 use Rattle.salvage.proofs.Laws.{lines_more, lines_end}
 use Rattle.salvage.proofs.put_lines.Goals as goal
 
@@ -14,12 +10,11 @@ pub loop-i-init : goal.loop-i-init
 loop-i-init c = (search rules, refl, rw sub-zero)
 
 pub loop-i-preserved : goal.loop-i-preserved
-loop-i-preserved c =
-    (
-      search rules,
-      simp length-set (omega (arith, c.four_digits-in-loop-i.auto.out, c.four_digits.auto.out, c.loop-i.invariant.1)),
-      lines_more _ _ c.loop-i.i _ (search rules) c.big2.ensures c.big2-in-loop-i.ensures c.four_digits.ensures c.four_digits-in-loop-i.ensures ∙ c.loop-i.invariant.2,
-    )
+loop-i-preserved c = (
+  search rules,
+  simp length-set (omega (arith, c.four_digits-in-loop-i.auto.out, c.four_digits.auto.out, c.loop-i.invariant.1)),
+  lines_more _ _ c.loop-i.i _ (search rules) c.big2.ensures c.big2-in-loop-i.ensures c.four_digits.ensures c.four_digits-in-loop-i.ensures ∙ c.loop-i.invariant.2,
+)
 
 pub returns : goal.returns
 returns c = (refl, lines_end _ _ _ c.loop-i.i _ (search rules) ∙ c.loop-i.invariant.2)
