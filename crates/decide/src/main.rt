@@ -7,7 +7,7 @@ ghost use Rattle.line.specs.Line.{longest};
 ghost use Rattle.decide.specs.Decide.{decided_line, printed};
 
 use decider::Outcome;
-use libc::{STDIN_FILENO, STDOUT_FILENO};
+use std::io;
 use text::Filled;
 
 // Puts the line of what the records decide first into `out`, and answers its length. `places` is for the work.
@@ -48,15 +48,15 @@ fn decided(
 }
 
 // One byte more than a book and a request can have is read, so a longer text is refused.
-fn main() {
+fn main(rt: HostRuntime) -> io::Result<()> {
     let mut book = [0u8; text::BOOK_TEXT];
     let mut request = [0u8; text::REQUEST_TEXT];
     let mut records = [0u8; record::BOOK];
     let mut entries = [0u8; record::REQUEST];
     let mut places = [0u16; record::MOST_RECORDS];
     let mut out = [0u8; line::LONGEST];
-    let n = file::read_book_file(&mut book);
-    let m = io::read_full(STDIN_FILENO, &mut request);
+    let n = file::read_book_file(&rt, &mut book);
+    let m = file::read_full(&mut rt.stdin(), &mut request);
     let k = decided(
         &book[..n],
         &request[..m],
@@ -65,5 +65,5 @@ fn main() {
         &mut places,
         &mut out,
     );
-    io::write_all(STDOUT_FILENO, &out[..k]);
+    rt.write_all(&out[..k])
 }

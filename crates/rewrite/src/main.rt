@@ -6,7 +6,7 @@ ghost use Rattle.record.specs.Bytes.{size, most_records};
 ghost use Rattle.text.specs.Text.{line_length};
 ghost use Rattle.rewrite.specs.Rewrite.{printed};
 
-use libc::STDOUT_FILENO;
+use std::io;
 use text::Filled;
 
 // Puts what is to be printed first into `out`, and answers its length. `records` is for the work.
@@ -24,11 +24,11 @@ fn rewritten(text: &[u8], records: &mut [u8], out: &mut [u8]) -> usize
 }
 
 // One byte more than a book can have is read, so a longer file is refused.
-fn main() {
+fn main(rt: HostRuntime) -> io::Result<()> {
     let mut text = [0u8; text::BOOK_TEXT];
     let mut records = [0u8; record::BOOK];
     let mut out = [0u8; record::MOST_RECORDS * text::LINE];
-    let n = file::read_book_file(&mut text);
+    let n = file::read_book_file(&rt, &mut text);
     let m = rewritten(&text[..n], &mut records, &mut out);
-    io::write_all(STDOUT_FILENO, &out[..m]);
+    rt.write_all(&out[..m])
 }

@@ -10,9 +10,9 @@ ghost use Rattle.line.specs.Line.{refusal_line};
 ghost use Rattle.salvage.specs.Salvage.{lines_of, said_of, said};
 ghost use Rattle.salvage.specs.Places.{replacements_at, First};
 
-use libc::STDOUT_FILENO;
 use mending::Salvaged;
 use record::Refusal;
+use std::io;
 use text::Filled;
 
 // The bytes of a replacement's line: eight digits and LF.
@@ -115,14 +115,14 @@ fn salvaged(
 }
 
 // One byte more than a book can have is read, so a longer file is refused. What is to be printed waits for the file.
-fn main() {
+fn main(rt: HostRuntime) -> io::Result<()> {
     let mut text = [0u8; text::BOOK_TEXT];
     let mut records = [0u8; record::BOOK];
     let mut mended = [0u8; record::BOOK];
     let mut replaced = [0u8; 2 * record::MOST_RECORDS];
     let mut out = [0u8; record::MOST_RECORDS * text::LINE];
     let mut printed = [0u8; PRINTED];
-    let n = file::read_book_file(&mut text);
+    let n = file::read_book_file(&rt, &mut text);
     let lengths = salvaged(
         &mut text[..n],
         &mut records,
@@ -133,10 +133,10 @@ fn main() {
     );
     let long = lengths.file;
     if 0 < long {
-        if !file::write_mended_file(&out[..long]) {
-            return;
+        if !file::write_mended_file(&rt, &out[..long]) {
+            return Ok(());
         }
     }
     let lines = lengths.printed;
-    io::write_all(STDOUT_FILENO, &printed[..lines]);
+    rt.write_all(&printed[..lines])
 }

@@ -9,6 +9,7 @@ ghost use Rattle.show.specs.Outline.{lines_before};
 use judge::Judged;
 use printing::{print_first, print_refusal, print_refused};
 use record::Refusal;
+use std::io;
 use text::Filled;
 
 mod faults;
@@ -24,26 +25,25 @@ mod refusals;
 const TOO_MANY: u8 = 2;
 
 // Prints record bytes that are judged.
-fn show_records(book: &[u8]) {
+fn show_records(rt: &impl Print, book: &[u8]) -> io::Result<()> {
     match judge::judge_book(book) {
         Judged::Accepted {
             records: n,
             obligations: _,
-        } => print_first(book, n),
-        Judged::Refused(refusal) => show_refused(book, refusal),
+        } => print_first(rt, book, n),
+        Judged::Refused(refusal) => show_refused(rt, book, refusal),
     }
 }
 
 // Prints record bytes that are refused.
-fn show_refused(book: &[u8], refusal: Refusal)
+fn show_refused(rt: &impl Print, book: &[u8], refusal: Refusal) -> io::Result<()>
     requires { refusal.line * size ≤ length book.now }
 {
     let line = refusal.line;
     if line == 0 {
-        print_refusal(refusal);
-        return;
+        return print_refusal(rt, refusal);
     }
-    print_refused(book, line - 1, refusal.number);
+    print_refused(rt, book, line - 1, refusal.number)
 }
 
 // The lines before the one at which a text is refused.
@@ -61,35 +61,35 @@ fn lines_before(refusal: Refusal) -> usize
 }
 
 // Prints the first n lines of a text, as far as they keep the field rules.
-fn show_lines(text: &[u8], records: &mut [u8], n: usize) {
+fn show_lines(rt: &impl Print, text: &[u8], records: &mut [u8], n: usize) -> io::Result<()> {
     let end = text::lines_end(text, n);
     match text::read_book(&text[..end], records) {
-        Filled::Places(m) => show_kept(&records[..m]),
-        Filled::Refused(_) => {}
+        Filled::Places(m) => show_kept(rt, &records[..m]),
+        Filled::Refused(_) => Ok(()),
     }
 }
 
 // Prints the records before the first that breaks a field rule.
-fn show_kept(records: &[u8]) {
+fn show_kept(rt: &impl Print, records: &[u8]) -> io::Result<()> {
     let kept = fields::first_field(records, records.len() / record::SIZE);
-    print_first(records, kept.records);
+    print_first(rt, records, kept.records)
 }
 
 // Prints a text: the records that it says, or why it says none, after the lines before.
-fn show(text: &[u8], records: &mut [u8]) {
+fn show(rt: &impl Print, text: &[u8], records: &mut [u8]) -> io::Result<()> {
     match text::read_book(text, records) {
-        Filled::Places(n) => show_records(&records[..n]),
+        Filled::Places(n) => show_records(rt, &records[..n]),
         Filled::Refused(refusal) => {
-            show_lines(text, records, lines_before(refusal));
-            print_refusal(refusal)
+            show_lines(rt, text, records, lines_before(refusal))?;
+            print_refusal(rt, refusal)
         }
     }
 }
 
 // One byte more than a book can have is read, so a longer file is refused.
-fn main() {
+fn main(rt: HostRuntime) -> io::Result<()> {
     let mut text = [0u8; text::BOOK_TEXT];
     let mut records = [0u8; record::BOOK];
-    let n = file::read_book_file(&mut text);
-    show(&text[..n], &mut records);
+    let n = file::read_book_file(&rt, &mut text);
+    show(&rt, &text[..n], &mut records)
 }

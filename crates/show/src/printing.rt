@@ -9,8 +9,8 @@ use crate::lines::Line;
 use crate::nesting::depth;
 use crate::records::record_words;
 use crate::refusals::{refusal_line, rule_line};
-use libc::STDOUT_FILENO;
 use record::Refusal;
+use std::io;
 
 // The blanks before a line number that is to have four places.
 fn blanks(n: usize) -> usize
@@ -52,35 +52,36 @@ fn line(book: &[u8], i: usize, mark: u8) -> Line
 }
 
 // Prints a line.
-fn send(l: Line)
+fn send(rt: &impl Print, l: Line) -> io::Result<()>
     requires { Inside l }
 {
     let bytes = l.bytes;
     let n = l.said;
-    io::write_all(STDOUT_FILENO, &bytes[..n]);
+    rt.write_all(&bytes[..n])
 }
 
 // Prints the first n records.
-pub fn print_first(book: &[u8], n: usize)
+pub fn print_first(rt: &impl Print, book: &[u8], n: usize) -> io::Result<()>
     requires { n * size ≤ length book.now }
 {
     let mut i: usize = 0;
     while i < n {
-        send(line(book, i, b' '));
+        send(rt, line(book, i, b' '))?;
         i += 1;
     }
+    Ok(())
 }
 
 // Prints the records before one that is refused, and that one with its rule.
-pub fn print_refused(book: &[u8], i: usize, number: u8)
+pub fn print_refused(rt: &impl Print, book: &[u8], i: usize, number: u8) -> io::Result<()>
     requires { (i + 1) * size ≤ length book.now }
 {
-    print_first(book, i);
-    send(line(book, i, b'>'));
-    send(rule_line(book, i, number));
+    print_first(rt, book, i)?;
+    send(rt, line(book, i, b'>'))?;
+    send(rt, rule_line(book, i, number))
 }
 
 // Prints a refusal that is of no record.
-pub fn print_refusal(refusal: Refusal) {
-    send(refusal_line(refusal));
+pub fn print_refusal(rt: &impl Print, refusal: Refusal) -> io::Result<()> {
+    send(rt, refusal_line(refusal))
 }

@@ -1,6 +1,5 @@
 use Rattle.outline.proofs.Laws.{then, as_is, digits_zero, digits_last, digits_more}
 use borrow.Author.Rules.{rules}
-use Prim.Native.Nat.{ℕ, ◌<◌}
 use Rattle.outline.proofs.+digits.Goals as goal
 
 pub returns-then-more-eq0 : goal.returns-then-more-eq0

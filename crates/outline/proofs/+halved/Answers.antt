@@ -1,6 +1,5 @@
 use Rattle.outline.proofs.Laws.{halved_none, halved_odd, halved_even}
 use borrow.Author.Rules.{rules}
-use Prim.Native.Nat.{ℕ, ◌<◌}
 use Rattle.outline.proofs.+halved.Goals as goal
 
 pub returns-then-k-eq0 : goal.returns-then-k-eq0

@@ -1,6 +1,5 @@
 use Rattle.outline.proofs.Laws.{then, as_is, hexes_none, hexes_end, hexes_more}
 use borrow.Author.Rules.{rules}
-use Prim.Native.Nat.{ℕ, ◌<◌}
 use Rattle.outline.proofs.+hexes.Goals as goal
 
 pub returns-then-left-eq0 : goal.returns-then-left-eq0

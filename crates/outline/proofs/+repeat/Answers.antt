@@ -1,6 +1,5 @@
 use Rattle.outline.proofs.Laws.{then, as_is, repeat_none, repeat_more}
 use borrow.Author.Rules.{rules}
-use Prim.Native.Nat.{ℕ, ◌<◌}
 use Rattle.outline.proofs.+repeat.Goals as goal
 
 pub returns-then-times-eq0 : goal.returns-then-times-eq0

@@ -1,7 +1,6 @@
 use borrow.Author.Tests.{not-true, not-false}
 use mathlib.Core.Path.{sym, ◌∙◌}
 use Rattle.outline.proofs.Laws.{then, as_is, too_none, too_some}
-use borrow.Author.Rules.{rules}
 use Rattle.outline.proofs.digits_too.Goals as goal
 
 pub returns-then-not-is_whole : goal.returns-then-not-is_whole

@@ -1,5 +1,4 @@
 use Rattle.outline.proofs.Laws.{then, as_is, double_parts}
-use borrow.Author.Rules.{rules}
 use Rattle.outline.proofs.double.Goals as goal
 
 pub returns : goal.returns

@@ -1,6 +1,5 @@
 use native.Mathlib.Omega.{arith}
 use Rattle.outline.proofs.Laws.{then, as_is, integer_pos, integer_neg}
-use borrow.Author.Rules.{rules}
 use Rattle.outline.proofs.integer.Goals as goal
 
 pub returns-then-n-lt9223372036854775808 : goal.returns-then-n-lt9223372036854775808

@@ -1,5 +1,4 @@
 use Rattle.outline.proofs.Laws.{whole_yes, whole_zero}
-use borrow.Author.Rules.{rules}
 use Rattle.outline.proofs.is_whole.Goals as goal
 
 pub returns-then-whole-gt0 : goal.returns-then-whole-gt0

@@ -1,6 +1,5 @@
 use mathlib.Core.Path.{sym}
 use Rattle.outline.proofs.Laws.{then, as_is}
-use borrow.Author.Rules.{rules}
 use Rattle.outline.proofs.lead.Goals as goal
 
 pub returns : goal.returns

@@ -1,6 +1,5 @@
 use mathlib.Core.Path.{refl}
 use Rattle.outline.proofs.Laws.{glyph_low, glyph_high}
-use borrow.Author.Rules.{rules}
 use Rattle.outline.proofs.letter.Goals as goal
 
 pub returns-then-d-lt10 : goal.returns-then-d-lt10

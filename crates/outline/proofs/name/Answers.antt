@@ -1,9 +1,7 @@
 use Rattle.outline.proofs.Laws.{kept, then, as_is, says_none, name_none, name_more}
-use Rattle.outline.specs.Outline.{Says, name_of}
+use Rattle.outline.specs.Outline.{name_of}
 use lib.Seq.{take_all}
-use lib.ListN.{length, take}
 use mathlib.Core.Path.{ap, ◌∙◌}
-use Prim.Native.Nat.{◌≤◌, ◌-◌}
 use borrow.Author.Rules.{rules}
 use Rattle.outline.proofs.name.Goals as goal
 

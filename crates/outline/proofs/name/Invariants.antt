@@ -1,10 +1,6 @@
-use Rattle.outline.proofs.Laws.{kept, then, as_is, says_none, name_none, name_more}
 use Rattle.outline.specs.Outline.{Says, name_of}
-use lib.Seq.{take_all}
 use lib.ListN.{length, take}
-use mathlib.Core.Path.{ap, ◌∙◌}
 use Prim.Native.Nat.{◌≤◌, ◌-◌}
-use borrow.Author.Rules.{rules}
 use Rattle.outline.proofs.name.Given as goal
 
 abbrev pub invariant-loop-i : goal.invariant-loop-i

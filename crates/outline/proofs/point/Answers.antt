@@ -1,5 +1,4 @@
 use Rattle.outline.proofs.Laws.{then, as_is, point_none, point_some}
-use borrow.Author.Rules.{rules}
 use Rattle.outline.proofs.point.Goals as goal
 
 pub returns-then-f-eq0 : goal.returns-then-f-eq0

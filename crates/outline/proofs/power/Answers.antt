@@ -1,5 +1,4 @@
 use Rattle.outline.proofs.Laws.{then, as_is, power_minus, power_plus}
-use borrow.Author.Rules.{rules}
 use Rattle.outline.proofs.power.Goals as goal
 
 pub returns-then-e-lt1023 : goal.returns-then-e-lt1023

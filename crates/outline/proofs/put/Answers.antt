@@ -1,5 +1,4 @@
 use Rattle.outline.proofs.Laws.{says_put, says_full}
-use borrow.Author.Rules.{rules}
 use Rattle.outline.proofs.put.Goals as goal
 
 pub returns-then-out-at : goal.returns-then-out-at

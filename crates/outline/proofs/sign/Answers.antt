@@ -1,5 +1,4 @@
 use Rattle.outline.proofs.Laws.{as_is, sign_none, sign_minus}
-use borrow.Author.Rules.{rules}
 use Rattle.outline.proofs.sign.Goals as goal
 
 pub returns-then-n-lt9223372036854775808 : goal.returns-then-n-lt9223372036854775808

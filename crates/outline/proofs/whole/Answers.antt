@@ -1,5 +1,4 @@
 use Rattle.outline.proofs.Laws.{whole_below, whole_above, whole_at}
-use borrow.Author.Rules.{rules}
 use Rattle.outline.proofs.whole.Goals as goal
 
 pub returns-then-e-lt1023 : goal.returns-then-e-lt1023

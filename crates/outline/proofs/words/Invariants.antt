@@ -1,10 +1,6 @@
-use Rattle.outline.proofs.Laws.{kept, then, as_is, says_none, take_more}
 use Rattle.outline.specs.Outline.{Says}
-use lib.Seq.{take_all}
 use lib.ListN.{length, take}
-use mathlib.Core.Path.{◌∙◌}
 use Prim.Native.Nat.{◌≤◌, ◌-◌}
-use borrow.Author.Rules.{rules}
 use Rattle.outline.proofs.words.Given as goal
 
 abbrev pub invariant-loop-i : goal.invariant-loop-i

@@ -1,5 +1,4 @@
 use mathlib.Core.Path.{sym, ◌∙◌}
-use borrow.Author.Rules.{rules}
 use Rattle.salvage.specs.Salvage.{said_of}
 use Rattle.salvage.proofs.Laws.{was_mended, said_by_lem, text_fits, lines_fit, mended_says, refused_says}
 use Rattle.salvage.proofs.mend.Goals as goal

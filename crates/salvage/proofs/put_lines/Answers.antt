@@ -1,12 +1,8 @@
 use borrow.Author.Rules.{rules}
 use native.Mathlib.Nat.{sub-zero}
 use native.Mathlib.Omega.{arith}
-use mathlib.Core.Path.{◌≡◌, refl, ◌∙◌}
-use Prim.Native.Nat.{◌≤◌, ◌-◌, ◌*◌}
-use lib.ListN.{length, length-set}
-use Rattle.record.specs.Stored.{stored}
-use Rattle.salvage.specs.Salvage.{lines_of}
-use Rattle.salvage.specs.Places.{replacements_at}
+use mathlib.Core.Path.{refl, ◌∙◌}
+use lib.ListN.{length-set}
 use Rattle.salvage.proofs.Laws.{lines_more, lines_end}
 use Rattle.salvage.proofs.put_lines.Goals as goal
 

@@ -1,13 +1,9 @@
-use borrow.Author.Rules.{rules}
-use native.Mathlib.Nat.{sub-zero}
-use native.Mathlib.Omega.{arith}
-use mathlib.Core.Path.{◌≡◌, refl, ◌∙◌}
+use mathlib.Core.Path.{◌≡◌}
 use Prim.Native.Nat.{◌≤◌, ◌-◌, ◌*◌}
-use lib.ListN.{length, length-set}
+use lib.ListN.{length}
 use Rattle.record.specs.Stored.{stored}
 use Rattle.salvage.specs.Salvage.{lines_of}
 use Rattle.salvage.specs.Places.{replacements_at}
-use Rattle.salvage.proofs.Laws.{lines_more, lines_end}
 use Rattle.salvage.proofs.put_lines.Given as goal
 
 abbrev pub invariant-loop-i : goal.invariant-loop-i

@@ -1,6 +1,5 @@
 use lib.ListN.{length-take}
 use native.Mathlib.Omega.{arith}
-use borrow.Author.Rules.{rules}
 use Rattle.salvage.proofs.Laws.{text_first, never_refused}
 use Rattle.salvage.proofs.put_text.Goals as goal
 

@@ -1,5 +1,4 @@
 use mathlib.Core.Path.{refl}
-use borrow.Author.Rules.{rules}
 use Rattle.salvage.proofs.Laws.{refusal_first}
 use Rattle.salvage.proofs.refused.Goals as goal
 

@@ -1,6 +1,5 @@
 use lib.ListN.{length-take}
 use native.Mathlib.Omega.{arith}
-use borrow.Author.Rules.{rules}
 use Rattle.text.proofs.Accepted.{read_fits}
 use Rattle.salvage.specs.Salvage.{said}
 use Rattle.salvage.proofs.Laws.{read_by_lem, text_read, refused_says}

@@ -1,7 +1,6 @@
 use Rattle.show.specs.Outline.{lines_before}
 use native.Mathlib.Omega.{arith}
 use borrow.Author.Tests.{eq-eqb, ne_eqb}
-use borrow.Author.Rules.{rules}
 use Rattle.show.proofs.lines_before.Goals as goal
 
 pub returns-then-refusal-eq-TOO_MANY : goal.returns-then-refusal-eq-TOO_MANY

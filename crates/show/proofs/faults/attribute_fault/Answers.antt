@@ -1,5 +1,4 @@
 use Rattle.show.specs.Fault.{attribute_fault}
-use borrow.Author.Rules.{rules}
 use Rattle.show.proofs.faults.attribute_fault.Goals as goal
 
 pub returns : goal.returns

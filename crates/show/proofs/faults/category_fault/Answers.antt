@@ -1,6 +1,5 @@
 use Rattle.show.specs.Fault.{category_fault}
 use borrow.Author.Tests.{le-leb, lt-leb}
-use borrow.Author.Rules.{rules}
 use Rattle.show.proofs.faults.category_fault.Goals as goal
 
 pub returns-then-c-lt1 : goal.returns-then-c-lt1

@@ -1,5 +1,4 @@
 use Rattle.show.specs.Fault.{compares_fault}
-use borrow.Author.Rules.{rules}
 use Rattle.show.proofs.faults.compares_fault.Goals as goal
 
 pub returns : goal.returns

@@ -1,6 +1,5 @@
 use Rattle.show.specs.Fault.{condition_fault}
 use borrow.Author.Tests.{eq-eqb, ne_eqb}
-use borrow.Author.Rules.{rules}
 use Rattle.show.proofs.faults.condition_fault.Goals as goal
 
 pub returns-then-p-eq3 : goal.returns-then-p-eq3

@@ -1,6 +1,5 @@
 use Rattle.show.specs.Fault.{fault_of}
 use borrow.Author.Tests.{eq-eqb, ne_eqb}
-use borrow.Author.Rules.{rules}
 use Rattle.show.proofs.faults.fault.Goals as goal
 
 pub returns-then-number-eq5 : goal.returns-then-number-eq5

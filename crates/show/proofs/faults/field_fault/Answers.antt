@@ -1,4 +1,3 @@
-use borrow.Author.Rules.{rules}
 use Rattle.show.proofs.faults.field_fault.Goals as goal
 
 pub returns-in-PolicySet : goal.returns-in-PolicySet

@@ -1,6 +1,5 @@
 use Rattle.show.specs.Fault.{kind_fault}
 use borrow.Author.Tests.{le-leb, lt-leb, ne_eqb}
-use borrow.Author.Rules.{rules}
 use Rattle.show.proofs.faults.kind_fault.Goals as goal
 
 pub returns-then-k-eq10 : goal.returns-then-k-eq10

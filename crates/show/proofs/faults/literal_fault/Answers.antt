@@ -1,6 +1,5 @@
 use Rattle.show.specs.Fault.{literal_fault}
 use borrow.Author.Tests.{eq-eqb, ne_eqb}
-use borrow.Author.Rules.{rules}
 use Rattle.show.proofs.faults.literal_fault.Goals as goal
 
 pub returns-then-span-ne1 : goal.returns-then-span-ne1

@@ -1,5 +1,4 @@
 use Rattle.show.specs.Fault.{operands_fault}
-use borrow.Author.Rules.{rules}
 use Rattle.show.proofs.faults.operands_fault.Goals as goal
 
 pub returns : goal.returns

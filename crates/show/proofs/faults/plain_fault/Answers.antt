@@ -1,6 +1,5 @@
 use Rattle.show.specs.Fault.{plain_fault}
 use borrow.Author.Tests.{eq-eqb, ne_eqb}
-use borrow.Author.Rules.{rules}
 use Rattle.show.proofs.faults.plain_fault.Goals as goal
 
 pub returns-then-span-eq0 : goal.returns-then-span-eq0

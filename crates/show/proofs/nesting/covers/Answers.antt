@@ -1,5 +1,4 @@
 use Rattle.show.proofs.Laws.{covers_is}
-use borrow.Author.Rules.{rules}
 use Rattle.show.proofs.nesting.covers.Goals as goal
 
 pub returns : goal.returns

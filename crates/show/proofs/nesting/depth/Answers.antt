@@ -1,8 +1,4 @@
 use Rattle.show.proofs.Laws.{count_none, depth_more, depth_end}
-use Rattle.operands.specs.Parent.{covers}
-use Rattle.fields.specs.First.{count_below}
-use Prim.Native.Nat.{◌≤◌, ◌-◌}
-use mathlib.Core.Path.{◌≡◌}
 use borrow.Author.Rules.{rules}
 use Rattle.show.proofs.nesting.depth.Goals as goal
 

@@ -1,9 +1,7 @@
-use Rattle.show.proofs.Laws.{count_none, depth_more, depth_end}
 use Rattle.operands.specs.Parent.{covers}
 use Rattle.fields.specs.First.{count_below}
 use Prim.Native.Nat.{◌≤◌, ◌-◌}
 use mathlib.Core.Path.{◌≡◌}
-use borrow.Author.Rules.{rules}
 use Rattle.show.proofs.nesting.depth.Given as goal
 
 abbrev pub invariant-loop-j : goal.invariant-loop-j

@@ -1,8 +1,4 @@
 use Rattle.show.proofs.Laws.{last_none, parent_more, parent_end}
-use Rattle.operands.specs.Parent.{covers}
-use Rattle.fields.specs.First.{last_below}
-use Prim.Native.Nat.{◌≤◌, ◌-◌}
-use mathlib.Core.Path.{◌≡◌}
 use borrow.Author.Rules.{rules}
 use Rattle.show.proofs.nesting.parent.Goals as goal
 

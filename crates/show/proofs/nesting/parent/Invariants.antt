@@ -1,9 +1,7 @@
-use Rattle.show.proofs.Laws.{last_none, parent_more, parent_end}
 use Rattle.operands.specs.Parent.{covers}
 use Rattle.fields.specs.First.{last_below}
 use Prim.Native.Nat.{◌≤◌, ◌-◌}
 use mathlib.Core.Path.{◌≡◌}
-use borrow.Author.Rules.{rules}
 use Rattle.show.proofs.nesting.parent.Given as goal
 
 abbrev pub invariant-loop-j : goal.invariant-loop-j

@@ -1,10 +1,8 @@
-use Rattle.show.proofs.Laws.{count_none, bars_more, start_none, start_here, start_more, start_end}
 use Rattle.show.specs.Phrase.{bar_at, fewer, start_of}
 use Rattle.fields.specs.First.{count_below, first_from}
 use lib.ListN.{length}
 use mathlib.Core.Path.{◌≡◌}
 use Prim.Native.Nat.{◌≤◌, ◌-◌}
-use borrow.Author.Rules.{rules}
 use Rattle.show.proofs.phrases.start.Given as goal
 
 abbrev pub invariant-loop-i : goal.invariant-loop-i

@@ -1,9 +1,4 @@
 use Rattle.show.proofs.Laws.{stop_none, stop_here, stop_more, stop_end}
-use Rattle.show.specs.Phrase.{no_bar, stop_of}
-use Rattle.fields.specs.First.{first_from}
-use lib.ListN.{length}
-use mathlib.Core.Path.{◌≡◌}
-use Prim.Native.Nat.{◌≤◌, ◌-◌}
 use borrow.Author.Rules.{rules}
 use Rattle.show.proofs.phrases.stop.Goals as goal
 

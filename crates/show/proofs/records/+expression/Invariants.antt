@@ -1,6 +1,3 @@
-use native.Mathlib.Omega.{arith}
-use borrow.Author.Rules.{rules}
-use Prim.Native.Nat.{ℕ, ◌<◌}
 use Rattle.show.proofs.records.+expression.Given as goal
 
 abbrev pub decreases-expression : goal.decreases-expression

@@ -1,7 +1,6 @@
 use Rattle.show.specs.Written.{Inside}
 use Rattle.record.specs.Bytes.{size}
 use Prim.Native.Nat.{◌≤◌, ◌-◌}
-use borrow.Author.Rules.{rules}
 use Rattle.show.proofs.records.bytes.Given as goal
 
 abbrev pub invariant-loop-k : goal.invariant-loop-k

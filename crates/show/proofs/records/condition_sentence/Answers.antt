@@ -1,5 +1,4 @@
 use Rattle.show.specs.Outline.{condition_sentence}
-use borrow.Author.Rules.{rules}
 use Rattle.show.proofs.records.condition_sentence.Goals as goal
 
 pub returns : goal.returns

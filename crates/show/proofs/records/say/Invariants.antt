@@ -1,6 +1,5 @@
 use Rattle.show.specs.Written.{Inside}
 use Prim.Native.Nat.{◌≤◌, ◌-◌}
-use borrow.Author.Rules.{rules}
 use Rattle.show.proofs.records.say.Given as goal
 
 abbrev pub invariant-loop-j : goal.invariant-loop-j

@@ -1,5 +1,4 @@
 use Rattle.show.specs.Outline.{value_sentence}
-use borrow.Author.Rules.{rules}
 use Rattle.show.proofs.records.value_sentence.Goals as goal
 
 pub returns : goal.returns

@@ -1,6 +1,5 @@
 use Rattle.outline.proofs.Laws.{as_is}
 use Rattle.show.proofs.Laws.{phrase_is}
-use borrow.Author.Rules.{rules}
 use Rattle.show.proofs.lines.Line.phrase.Goals as goal
 
 pub returns : goal.returns
