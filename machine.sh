@@ -1,7 +1,7 @@
 #!/bin/bash
 # Sourced by the scripts: on what the built code runs, and what installs what is missing.
 #
-# The Rattle compiler makes x86-64 code only. On another machine, such as Arm, the C and Rust around it are compiled for
+# rt makes x86-64 code only. On another machine, such as Arm, the C and Rust around it are compiled for
 # x86-64 too, with Debian's cross compilers, and run under an emulator: there results count, and times say nothing.
 #
 #   native     yes on an x86-64 machine, else no

@@ -78,8 +78,7 @@ fn decide_in(book: &[u8], request: &[u8], places: &mut [u16], out: &mut [u8]) ->
 }
 
 // Judges and decides: document 01's number, and the obligations in out.
-#[unsafe(no_mangle)]
-pub extern "C" fn bachumoi_decide(book: &[u8], request: &[u8], out: &mut [u8]) -> u64
+pub fn bachumoi_decide(book: &[u8], request: &[u8], out: &mut [u8]) -> u64
     ensures { (result ≡ host_number (host_outcome book.now request.now out.old))
         × (out.new ≡ host_out book.now request.now out.old) }
 {

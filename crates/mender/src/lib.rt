@@ -22,8 +22,7 @@ fn number(answer: Salvaged) -> u64
 }
 
 // Mends a half-copied book: its records into `mended`, and four bytes a replacement into `replaced`.
-#[unsafe(no_mangle)]
-pub extern "C" fn bachumoi_salvage(book: &[u8], mended: &mut [u8], replaced: &mut [u8]) -> u64
+pub fn bachumoi_salvage(book: &[u8], mended: &mut [u8], replaced: &mut [u8]) -> u64
     ensures { (result ≡ salvaged_number (answer_of book.now (length mended.old) (length replaced.old)))
         × (mended.new ≡ mended_out book.now (answer_of book.now (length mended.old) (length replaced.old)) mended.old)
         × (replaced.new ≡ replaced_out book.now (answer_of book.now (length mended.old) (length replaced.old)) replaced.old) }

@@ -25,36 +25,31 @@ fn packed(answer: Filled) -> u64
     }
 }
 
-#[unsafe(no_mangle)]
-pub extern "C" fn probe_read_book(text: &[u8], out: &mut [u8]) -> u64
+pub fn probe_read_book(text: &[u8], out: &mut [u8]) -> u64
     ensures { (result ≡ packed_of (read_of book text.now (length out.old))) × (out.new ≡ output_after (byte_at text.now) (read_of book text.now (length out.old)) out.old) }
 {
     packed(text::read_book(text, out))
 }
 
-#[unsafe(no_mangle)]
-pub extern "C" fn probe_read_request(text: &[u8], out: &mut [u8]) -> u64
+pub fn probe_read_request(text: &[u8], out: &mut [u8]) -> u64
     ensures { (result ≡ packed_of (read_of request text.now (length out.old))) × (out.new ≡ output_after (byte_at text.now) (read_of request text.now (length out.old)) out.old) }
 {
     packed(text::read_request(text, out))
 }
 
-#[unsafe(no_mangle)]
-pub extern "C" fn probe_write_book(records: &[u8], out: &mut [u8]) -> u64
+pub fn probe_write_book(records: &[u8], out: &mut [u8]) -> u64
     ensures { (result ≡ packed_of (write_of book records.now (length out.old))) × (out.new ≡ output_after (text_at records.now) (write_of book records.now (length out.old)) out.old) }
 {
     packed(text::write_book(records, out))
 }
 
-#[unsafe(no_mangle)]
-pub extern "C" fn probe_write_request(records: &[u8], out: &mut [u8]) -> u64
+pub fn probe_write_request(records: &[u8], out: &mut [u8]) -> u64
     ensures { (result ≡ packed_of (write_of request records.now (length out.old))) × (out.new ≡ output_after (text_at records.now) (write_of request records.now (length out.old)) out.old) }
 {
     packed(text::write_request(records, out))
 }
 
-#[unsafe(no_mangle)]
-pub extern "C" fn probe_zero_wrong(text: &mut [u8])
+pub fn probe_zero_wrong(text: &mut [u8])
     ensures { text.new ≡ zeroed text.old }
 {
     text::zero_wrong(text);
@@ -83,15 +78,13 @@ fn request_packed(answer: JudgedRequest) -> u64
     }
 }
 
-#[unsafe(no_mangle)]
-pub extern "C" fn probe_judge_book(book: &[u8]) -> u64
+pub fn probe_judge_book(book: &[u8]) -> u64
     ensures { result ≡ book_packed (judge_of book.now) }
 {
     book_packed(judge::judge_book(book))
 }
 
-#[unsafe(no_mangle)]
-pub extern "C" fn probe_judge_request(request: &[u8]) -> u64
+pub fn probe_judge_request(request: &[u8]) -> u64
     ensures { result ≡ request_packed (judge_request_of request.now) }
 {
     request_packed(judge::judge_request(request))

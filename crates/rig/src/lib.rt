@@ -93,8 +93,7 @@ fn put_state(state: State, numbers: &mut [u64], places: &mut [u16])
 }
 
 // Translates a book into lent entries: 256 times their number, or the refusal.
-#[unsafe(no_mangle)]
-pub extern "C" fn bachumoi_translate(book: &[u8], programme: &mut [u64]) -> u64
+pub fn bachumoi_translate(book: &[u8], programme: &mut [u64]) -> u64
     ensures { (result ≡ translated_number (translate_of book.now (length programme.old)))
         × (programme.new ≡ leaves (translate_of book.now (length programme.old)) book.now programme.old) }
 {
@@ -105,8 +104,7 @@ pub extern "C" fn bachumoi_translate(book: &[u8], programme: &mut [u64]) -> u64
 }
 
 // Puts the fresh state into lent numbers and places: 0, or the refusal.
-#[unsafe(no_mangle)]
-pub extern "C" fn bachumoi_fresh(numbers: &mut [u64], places: &mut [u16]) -> u64
+pub fn bachumoi_fresh(numbers: &mut [u64], places: &mut [u16]) -> u64
     ensures { call result numbers.new places.new ≡ fresh_call numbers.old places.old }
 {
     if numbers.len() < NUMBERS {
@@ -136,8 +134,7 @@ fn finished(v: Verdict, count: u64, steps: u64) -> u64
 }
 
 // Takes one tick of the state in lent numbers and places: its answer as one number. A refusal leaves all that is lent as it was.
-#[unsafe(no_mangle)]
-pub extern "C" fn bachumoi_tick(
+pub fn bachumoi_tick(
     programme: &[u64],
     request: &[u8],
     numbers: &mut [u64],
