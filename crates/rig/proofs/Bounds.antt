@@ -19,7 +19,6 @@ use Rattle.layout.specs.declared.State.{State}
 use Rattle.layout.specs.Entry.{loads, asks, works, tests, Entry, begin, match, further, opens, compare, close, sum, rule, enter, applies, conclude, oblige, leave, finish}
 use Rattle.layout.specs.Layout.{allowed, piece_words, words_of}
 use Rattle.programme.specs.Step.{state_of}
-use Rattle.run.specs.declared.kinds.Answer.TheVariants.{Refused}
 use Rattle.code.specs.Code.{translated as code, in_numbers}
 use Rattle.translator.specs.Translate.{programme_of, room_for, answer_to, translate_of}
 use Rattle.translator.specs.declared.Translated.{Translated}

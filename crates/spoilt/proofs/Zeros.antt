@@ -1,11 +1,10 @@
 -- A record of zeros is bad, and covers no other. Assumes nothing.
 use mathlib.Core.Path.{◌≡◌, refl, sym, ◌∙◌}
 use mathlib.Core.Bool.{false}
-use mathlib.Core.List.{List}
 use native.Mathlib.Omega.{arith}
-use Prim.Native.Nat.{ℕ, ◌<◌}
+use Prim.Native.Nat.{ℕ}
 use lib.ListN.{replicate}
-use Rattle.record.specs.Bytes.{size, byte_of, span_of}
+use Rattle.record.specs.Bytes.{size, span_of}
 use Rattle.record.specs.Forest.{span_in}
 use Rattle.fields.specs.Fields.{kind_of, kind_at, field_ok}
 use Rattle.structure.specs.Subtrees.{Subtrees, record_at}

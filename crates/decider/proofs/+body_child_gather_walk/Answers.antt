@@ -1,12 +1,10 @@
 use borrow.Author.Tests.{not-true, not-false}
-use Rattle.meaning.specs.Reading.{bags_of}
-use Rattle.record.specs.Forest.{forest, height}
 use Rattle.decider.proofs.Rooms.{deep_is, nest_kids, nest_rest, rooms}
-use Rattle.decider.proofs.Laws.{child_no, child_lost, child_yes, body_own, gather_rules, gather_walk, gather_nobody, gather_many, gather_one, picked_one, Sofar, walk_start, walk_skip, walk_turn, walk_stop, walk_end}
+use Rattle.decider.proofs.Laws.{child_no, child_lost, child_yes, body_own, gather_rules, gather_walk, gather_nobody, gather_many, gather_one, picked_one, walk_start, walk_skip, walk_turn, walk_stop, walk_end}
 use native.Mathlib.Omega.{arith}
 use borrow.Author.Rules.{rules}
-use Prim.Native.Nat.{ℕ, ◌+◌, ◌-◌, ◌*◌, ◌≤◌, ◌<◌}
-use mathlib.Core.Path.{◌≡◌, refl, sym, ◌∙◌}
+use Prim.Native.Nat.{◌+◌, ◌-◌}
+use mathlib.Core.Path.{refl, sym, ◌∙◌}
 use Rattle.decider.proofs.+body_child_gather_walk.Goals as goal
 
 pub body-gather-r-requires : goal.body-gather-r-requires

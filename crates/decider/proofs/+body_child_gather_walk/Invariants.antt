@@ -1,12 +1,8 @@
-use borrow.Author.Tests.{not-true, not-false}
 use Rattle.meaning.specs.Reading.{bags_of}
 use Rattle.record.specs.Forest.{forest, height}
-use Rattle.decider.proofs.Rooms.{deep_is, nest_kids, nest_rest, rooms}
-use Rattle.decider.proofs.Laws.{child_no, child_lost, child_yes, body_own, gather_rules, gather_walk, gather_nobody, gather_many, gather_one, picked_one, Sofar, walk_start, walk_skip, walk_turn, walk_stop, walk_end}
-use native.Mathlib.Omega.{arith}
-use borrow.Author.Rules.{rules}
-use Prim.Native.Nat.{ℕ, ◌+◌, ◌-◌, ◌*◌, ◌≤◌, ◌<◌}
-use mathlib.Core.Path.{◌≡◌, refl, sym, ◌∙◌}
+use Rattle.decider.proofs.Laws.{Sofar}
+use Prim.Native.Nat.{◌+◌, ◌*◌, ◌≤◌}
+use mathlib.Core.Path.{◌≡◌}
 use Rattle.decider.proofs.+body_child_gather_walk.Given as goal
 
 abbrev pub invariant-walk-loop-left : goal.invariant-walk-loop-left

@@ -1,6 +1,5 @@
 use native.Mathlib.Omega.{arith}
 use Rattle.decider.proofs.Whole.{room_all, answered}
-use borrow.Author.Rules.{rules}
 use Rattle.decider.proofs.answer.Goals as goal
 
 pub child-r-requires : goal.child-r-requires

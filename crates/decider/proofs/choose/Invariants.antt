@@ -1,9 +1,5 @@
-use borrow.Author.Rules.{rules}
-use native.Mathlib.Omega.{arith}
-use mathlib.Core.Path.{sym, ◌∙◌}
-use borrow.Author.Tests.{not-true, not-false}
 use Rattle.meaning.specs.Reading.{bags_of}
-use Rattle.decider.proofs.Laws.{Seeking, seek_start, seek_skip, seek_turn, seek_stop, seek_end}
+use Rattle.decider.proofs.Laws.{Seeking}
 use Rattle.decider.proofs.choose.Given as goal
 
 abbrev pub invariant-loop-left : goal.invariant-loop-left

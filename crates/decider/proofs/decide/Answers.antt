@@ -1,6 +1,5 @@
 use native.Mathlib.Omega.{arith}
 use Rattle.decider.proofs.Whole.{refused_book, refused_request, refused_room, decided, accepted_has}
-use borrow.Author.Rules.{rules}
 use Rattle.decider.proofs.decide.Goals as goal
 
 pub returns-then-out-obligations : goal.returns-then-out-obligations

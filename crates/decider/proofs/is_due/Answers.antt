@@ -1,4 +1,3 @@
-use borrow.Author.Rules.{rules}
 use borrow.Author.Tests.{ne_eqb}
 use Rattle.decider.specs.Inside.{is_due}
 use Rattle.decider.proofs.is_due.Goals as goal

@@ -1,4 +1,3 @@
-use borrow.Author.Rules.{rules}
 use Rattle.decider.proofs.note.Goals as goal
 
 pub returns-in-Nobody : goal.returns-in-Nobody

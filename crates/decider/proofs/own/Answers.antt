@@ -1,5 +1,4 @@
 use mathlib.Core.Path.{refl}
-use borrow.Author.Rules.{rules}
 use Rattle.decider.proofs.Laws.{own_put, own_none}
 use Rattle.decider.proofs.own.Goals as goal
 

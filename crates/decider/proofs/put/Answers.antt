@@ -1,8 +1,6 @@
-use Prim.Native.Nat.{◌+◌, ◌≤◌}
-use mathlib.Core.Path.{◌≡◌, refl}
+use mathlib.Core.Path.{refl}
 use native.Mathlib.Omega.{arith}
-use borrow.Author.Rules.{rules}
-use Rattle.decider.proofs.Laws.{Putting, put_start, put_room, put_skip, put_turn, put_end}
+use Rattle.decider.proofs.Laws.{put_start, put_room, put_skip, put_turn, put_end}
 use Rattle.decider.proofs.put.Goals as goal
 
 pub loop-left-init : goal.loop-left-init

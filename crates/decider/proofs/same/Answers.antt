@@ -1,4 +1,3 @@
-use borrow.Author.Rules.{rules}
 use Rattle.decider.proofs.Laws.{same_number}
 use Rattle.decider.proofs.same.Goals as goal
 

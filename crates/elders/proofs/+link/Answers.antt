@@ -1,7 +1,6 @@
-use Prim.Native.Nat.{ℕ, ◌-◌, ◌<◌}
 use native.Mathlib.Omega.{arith}
 use borrow.Author.Rules.{rules}
-use Rattle.elders.proofs.Links.{Linking, linking_none, linking_begin, next_le, linking_one, linking_more, linking_end, first_le}
+use Rattle.elders.proofs.Links.{linking_none, linking_begin, next_le, linking_one, linking_more, linking_end, first_le}
 use lib.ListN.{length-set}
 use Rattle.elders.proofs.+link.Goals as goal
 

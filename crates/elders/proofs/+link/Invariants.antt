@@ -1,8 +1,5 @@
-use Prim.Native.Nat.{ℕ, ◌-◌, ◌<◌}
-use native.Mathlib.Omega.{arith}
-use borrow.Author.Rules.{rules}
-use Rattle.elders.proofs.Links.{Linking, linking_none, linking_begin, next_le, linking_one, linking_more, linking_end, first_le}
-use lib.ListN.{length-set}
+use Prim.Native.Nat.{◌-◌}
+use Rattle.elders.proofs.Links.{Linking}
 use Rattle.elders.proofs.+link.Given as goal
 
 abbrev pub invariant-loop-i : goal.invariant-loop-i

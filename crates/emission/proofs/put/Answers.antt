@@ -1,6 +1,5 @@
 use mathlib.Core.Path.{sym}
 use lib.Seq.{set_out}
-use borrow.Author.Rules.{rules}
 use Rattle.emission.proofs.put.Goals as goal
 
 pub returns-else-at-out : goal.returns-else-at-out

@@ -1,5 +1,4 @@
 use mathlib.Core.Path.{sym, ◌∙◌}
-use borrow.Author.Rules.{rules}
 use Rattle.host.proofs.Laws.{places_lent}
 use Rattle.host.proofs.bachumoi_decide.Goals as goal
 

@@ -1,8 +1,6 @@
-use Prim.Native.Nat.{◌≤◌, ◌-◌}
-use lib.ListN.{length}
 use native.Mathlib.Omega.{arith}
 use borrow.Author.Rules.{rules}
-use Rattle.record.proofs.Filling.{Cleared, fill_none, clear_more, clear_done}
+use Rattle.record.proofs.Filling.{fill_none, clear_more, clear_done}
 use Rattle.host.proofs.clear.Goals as goal
 
 pub loop-k-init : goal.loop-k-init

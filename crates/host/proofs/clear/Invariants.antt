@@ -1,8 +1,6 @@
 use Prim.Native.Nat.{◌≤◌, ◌-◌}
 use lib.ListN.{length}
-use native.Mathlib.Omega.{arith}
-use borrow.Author.Rules.{rules}
-use Rattle.record.proofs.Filling.{Cleared, fill_none, clear_more, clear_done}
+use Rattle.record.proofs.Filling.{Cleared}
 use Rattle.host.proofs.clear.Given as goal
 
 abbrev pub invariant-loop-k : goal.invariant-loop-k

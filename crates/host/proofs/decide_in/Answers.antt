@@ -1,11 +1,7 @@
-use Prim.Native.Nat.{◌*◌, ◌≤◌}
-use lib.ListN.{length}
 use native.Mathlib.Omega.{arith}
 use mathlib.Core.Path.{sym, ◌∙◌}
-use Rattle.record.specs.Bytes.{most_records}
 use Rattle.host.proofs.Laws.{host_refused, host_fits, host_decided}
 use Rattle.decider.proofs.Whole.{refused_line}
-use borrow.Author.Rules.{rules}
 use Rattle.host.proofs.decide_in.Goals as goal
 
 pub refusal_number-requires : goal.refusal_number-requires

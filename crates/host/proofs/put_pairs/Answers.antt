@@ -1,11 +1,7 @@
 use native.Mathlib.Omega.{arith}
-use Prim.Native.Nat.{◌-◌, ◌*◌, ◌≤◌}
 use mathlib.Core.Path.{◌≡◌, refl}
-use mathlib.Core.List.{◌++◌}
-use lib.ListN.{length, take, drop, length-set}
-use Rattle.host.specs.Host.{pairs_of}
+use lib.ListN.{length-set}
 use Rattle.host.proofs.Laws.{pairs_none, pairs_more}
-use borrow.Author.Rules.{rules}
 use Rattle.host.proofs.put_pairs.Goals as goal
 
 pub loop-k-init : goal.loop-k-init

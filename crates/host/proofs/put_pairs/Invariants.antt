@@ -1,11 +1,8 @@
-use native.Mathlib.Omega.{arith}
 use Prim.Native.Nat.{◌-◌, ◌*◌, ◌≤◌}
-use mathlib.Core.Path.{◌≡◌, refl}
+use mathlib.Core.Path.{◌≡◌}
 use mathlib.Core.List.{◌++◌}
-use lib.ListN.{length, take, drop, length-set}
+use lib.ListN.{length, take, drop}
 use Rattle.host.specs.Host.{pairs_of}
-use Rattle.host.proofs.Laws.{pairs_none, pairs_more}
-use borrow.Author.Rules.{rules}
 use Rattle.host.proofs.put_pairs.Given as goal
 
 abbrev pub invariant-loop-k : goal.invariant-loop-k

@@ -1,6 +1,5 @@
 use Rattle.layout.specs.Layout.{acc_by}
 use borrow.Author.Tests.{lt-ltb, le-ltb, ne_eqb}
-use borrow.Author.Rules.{rules}
 use Rattle.layout.proofs.acc_by.Goals as goal
 
 pub returns-then-n-lt5 : goal.returns-then-n-lt5

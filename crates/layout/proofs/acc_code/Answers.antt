@@ -1,5 +1,4 @@
 use native.Mathlib.Omega.{arith}
-use borrow.Author.Rules.{rules}
 use Rattle.layout.proofs.acc_code.Goals as goal
 
 pub returns-in-One : goal.returns-in-One

@@ -1,5 +1,4 @@
 use Rattle.layout.specs.Layout.{found_by}
-use borrow.Author.Rules.{rules}
 use Rattle.layout.proofs.found_by.Goals as goal
 
 pub returns : goal.returns

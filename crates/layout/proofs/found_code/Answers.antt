@@ -1,6 +1,5 @@
 use Rattle.layout.specs.Layout.{found_code}
 use native.Mathlib.Omega.{arith}
-use borrow.Author.Rules.{rules}
 use Rattle.layout.proofs.found_code.Goals as goal
 
 pub returns : goal.returns

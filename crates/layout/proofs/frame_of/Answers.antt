@@ -1,6 +1,5 @@
 use Rattle.layout.specs.Layout.{frame_of}
 use native.Mathlib.Omega.{arith}
-use borrow.Author.Rules.{rules}
 use Rattle.layout.proofs.frame_of.Goals as goal
 
 pub returns : goal.returns

@@ -1,5 +1,4 @@
 use Rattle.layout.specs.Layout.{frame_word}
-use borrow.Author.Rules.{rules}
 use Rattle.layout.proofs.frame_word.Goals as goal
 
 pub returns : goal.returns

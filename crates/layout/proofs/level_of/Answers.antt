@@ -1,5 +1,4 @@
 use Rattle.layout.specs.Layout.{level_of}
-use borrow.Author.Rules.{rules}
 use Rattle.layout.proofs.level_of.Goals as goal
 
 pub returns : goal.returns

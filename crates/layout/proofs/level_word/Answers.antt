@@ -1,5 +1,4 @@
 use Rattle.layout.specs.Layout.{level_word}
-use borrow.Author.Rules.{rules}
 use Rattle.layout.proofs.level_word.Goals as goal
 
 pub returns : goal.returns

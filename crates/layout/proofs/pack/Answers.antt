@@ -1,5 +1,4 @@
 use Rattle.layout.specs.Layout.{pack_of}
-use borrow.Author.Rules.{rules}
 use Rattle.layout.proofs.pack.Goals as goal
 
 pub returns : goal.returns

@@ -1,5 +1,4 @@
 use native.Mathlib.Omega.{arith}
-use borrow.Author.Rules.{rules}
 use Rattle.layout.proofs.truth_code.Goals as goal
 
 pub returns-in-Unknown : goal.returns-in-Unknown

@@ -1,5 +1,4 @@
 use Rattle.layout.specs.Layout.{unpack_of}
-use borrow.Author.Rules.{rules}
 use Rattle.layout.proofs.unpack.Goals as goal
 
 pub returns : goal.returns

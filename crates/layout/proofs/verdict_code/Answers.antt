@@ -1,5 +1,4 @@
 use native.Mathlib.Omega.{arith}
-use borrow.Author.Rules.{rules}
 use Rattle.layout.proofs.verdict_code.Goals as goal
 
 pub returns-in-Indeterminate : goal.returns-in-Indeterminate

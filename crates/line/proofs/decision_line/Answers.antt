@@ -1,7 +1,6 @@
 use lib.Seq.{take_all}
 use lib.ListN.{length-take}
 use native.Mathlib.Omega.{arith}
-use borrow.Author.Rules.{rules}
 use Rattle.line.proofs.decision_line.Goals as goal
 
 pub slice_bounds-put_decision-end : goal.slice_bounds-put_decision-end

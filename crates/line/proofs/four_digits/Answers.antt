@@ -1,4 +1,3 @@
-use borrow.Author.Rules.{rules}
 use Rattle.line.proofs.Laws.{stored_four}
 use Rattle.line.proofs.four_digits.Goals as goal
 

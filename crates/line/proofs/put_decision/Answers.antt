@@ -1,6 +1,5 @@
 use mathlib.Core.Path.{sym, ◌∙◌}
 use native.Mathlib.Omega.{arith}
-use borrow.Author.Rules.{rules}
 use Rattle.line.proofs.Laws.{length_decision, decision_put, put_short, places_short, places_fits}
 use Rattle.line.proofs.put_decision.Goals as goal
 

@@ -1,11 +1,7 @@
 use borrow.Author.Rules.{rules}
 use native.Mathlib.Omega.{arith}
 use mathlib.Core.Path.{◌≡◌, refl, ◌∙◌}
-use mathlib.Core.List.{[], ◌∷◌, ◌++◌}
-use Prim.Native.Nat.{◌≤◌, ◌-◌, ◌*◌, ◌+◌}
-use lib.ListN.{length, drop}
-use Rattle.record.specs.Stored.{stored}
-use Rattle.line.specs.Line.{fours}
+use Prim.Native.Nat.{◌*◌, ◌+◌}
 use Rattle.line.proofs.Laws.{fours_more, fours_end}
 use Rattle.line.proofs.put_obligations.Goals as goal
 

@@ -1,12 +1,9 @@
-use borrow.Author.Rules.{rules}
-use native.Mathlib.Omega.{arith}
-use mathlib.Core.Path.{◌≡◌, refl, ◌∙◌}
+use mathlib.Core.Path.{◌≡◌}
 use mathlib.Core.List.{[], ◌∷◌, ◌++◌}
 use Prim.Native.Nat.{◌≤◌, ◌-◌, ◌*◌, ◌+◌}
 use lib.ListN.{length, drop}
 use Rattle.record.specs.Stored.{stored}
 use Rattle.line.specs.Line.{fours}
-use Rattle.line.proofs.Laws.{fours_more, fours_end}
 use Rattle.line.proofs.put_obligations.Given as goal
 
 abbrev pub invariant-loop-i : goal.invariant-loop-i

@@ -1,6 +1,5 @@
 use lib.ListN.{length-set}
 use native.Mathlib.Omega.{arith}
-use borrow.Author.Rules.{rules}
 use Rattle.line.proofs.Laws.{stored_two}
 use Rattle.line.proofs.two_digits.Goals as goal
 

@@ -1,5 +1,4 @@
 use mathlib.Core.Path.{ap, ◌∙◌}
-use borrow.Author.Rules.{rules}
 use Rattle.mending.proofs.Caller.{answers_within}
 use Rattle.mender.specs.Mender.{salvaged_number}
 use Rattle.mender.proofs.bachumoi_salvage.Goals as goal

@@ -1,6 +1,5 @@
 use mathlib.Core.Path.{ap, sym, ◌∙◌}
 use native.Mathlib.Omega.{arith}
-use borrow.Author.Rules.{rules}
 use Rattle.mender.specs.Mender.{salvaged_number}
 use Rattle.mender.proofs.number.Goals as goal
 

@@ -1,11 +1,9 @@
-use Prim.Native.Nat.{◌≤◌, ◌+◌, ◌-◌, ◌*◌}
-use mathlib.Core.Path.{◌≡◌, refl, sym, ◌∙◌}
+use Prim.Native.Nat.{◌+◌, ◌*◌}
+use mathlib.Core.Path.{refl, sym, ◌∙◌}
 use native.Mathlib.Omega.{arith}
-use lib.ListN.{length, get_or, length-set}
-use borrow.Author.Rules.{rules}
+use lib.ListN.{get_or, length-set}
 use Rattle.record.specs.Bytes.{size}
-use Rattle.record.specs.Stored.{stored}
-use Rattle.mending.proofs.Copied.{part_of, stored_more, stored_end, part_slice}
+use Rattle.mending.proofs.Copied.{stored_more, stored_end, part_slice}
 use Rattle.mending.proofs.copy.Goals as goal
 
 pub loop-from-init : goal.loop-from-init

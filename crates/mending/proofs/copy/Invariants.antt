@@ -1,11 +1,9 @@
 use Prim.Native.Nat.{◌≤◌, ◌+◌, ◌-◌, ◌*◌}
-use mathlib.Core.Path.{◌≡◌, refl, sym, ◌∙◌}
-use native.Mathlib.Omega.{arith}
-use lib.ListN.{length, get_or, length-set}
-use borrow.Author.Rules.{rules}
+use mathlib.Core.Path.{◌≡◌}
+use lib.ListN.{length}
 use Rattle.record.specs.Bytes.{size}
 use Rattle.record.specs.Stored.{stored}
-use Rattle.mending.proofs.Copied.{part_of, stored_more, stored_end, part_slice}
+use Rattle.mending.proofs.Copied.{part_of}
 use Rattle.mending.proofs.copy.Given as goal
 
 abbrev pub invariant-loop-from : goal.invariant-loop-from

@@ -1,10 +1,8 @@
-use Prim.Native.Nat.{ℕ, ◌≤◌, ◌<◌, ◌+◌, ◌-◌, ◌*◌}
+use Prim.Native.Nat.{ℕ, ◌≤◌, ◌<◌, ◌+◌}
 use mathlib.Core.Path.{◌≡◌, refl, ◌∙◌}
 use native.Mathlib.Omega.{arith}
-use lib.ListN.{length}
 use mathlib.Core.List.{List}
 use Rattle.record.specs.Bytes.{span_of}
-use borrow.Author.Rules.{rules}
 use Rattle.mending.proofs.Mending.{Mending, mending_first, mending_kept, two_at_least, mending_new, mending_same, mending_last}
 use Rattle.mending.proofs.mend.Goals as goal
 

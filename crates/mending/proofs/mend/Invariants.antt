@@ -1,9 +1,7 @@
-use Prim.Native.Nat.{◌≤◌, ◌<◌, ◌+◌, ◌-◌, ◌*◌}
-use mathlib.Core.Path.{◌≡◌, refl, ◌∙◌}
-use native.Mathlib.Omega.{arith}
+use Prim.Native.Nat.{◌≤◌, ◌<◌, ◌-◌, ◌*◌}
+use mathlib.Core.Path.{◌≡◌}
 use lib.ListN.{length}
-use borrow.Author.Rules.{rules}
-use Rattle.mending.proofs.Mending.{Mending, mending_first, mending_kept, two_at_least, mending_new, mending_same, mending_last}
+use Rattle.mending.proofs.Mending.{Mending}
 use Rattle.mending.proofs.mend.Given as goal
 
 abbrev pub invariant-loop-i : goal.invariant-loop-i

@@ -1,4 +1,3 @@
-use borrow.Author.Rules.{rules}
 use Rattle.structure.specs.Subtrees.{slice_of}
 use Rattle.mending.proofs.put_denial.Goals as goal
 

@@ -1,6 +1,5 @@
 use lib.ListN.{length-set}
 use native.Mathlib.Omega.{arith}
-use borrow.Author.Rules.{rules}
 use Rattle.record.proofs.Stored.{stored_pair}
 use Rattle.mending.proofs.put_pair.Goals as goal
 

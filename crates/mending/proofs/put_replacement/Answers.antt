@@ -1,4 +1,3 @@
-use borrow.Author.Rules.{rules}
 use Rattle.mending.proofs.Mending.{two_pairs}
 use Rattle.mending.proofs.put_replacement.Goals as goal
 

@@ -1,5 +1,4 @@
 use native.Mathlib.Omega.{arith}
-use borrow.Author.Rules.{rules}
 use Rattle.mending.proofs.Answering.{salvages_none, salvages_cut, salvages_many, salvages}
 use Rattle.mending.proofs.salvage.Goals as goal
 

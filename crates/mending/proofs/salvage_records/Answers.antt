@@ -1,5 +1,4 @@
 use native.Mathlib.Omega.{arith}
-use borrow.Author.Rules.{rules}
 use borrow.Author.Tests.{not-true, not-false}
 use Rattle.mending.proofs.Answering.{answer_not_set, answer_spoilt, answer_short, answer_few, answer_done}
 use Rattle.mending.proofs.salvage_records.Goals as goal

@@ -1,5 +1,4 @@
 use Rattle.pieces.proofs.Laws.{puts}
-use borrow.Author.Rules.{rules}
 use Rattle.pieces.proofs.put_word.Goals as goal
 
 pub returns : goal.returns

@@ -1,4 +1,3 @@
-use borrow.Author.Rules.{rules}
 use Rattle.pieces.proofs.since_word.Goals as goal
 
 pub returns-in-Unknown : goal.returns-in-Unknown

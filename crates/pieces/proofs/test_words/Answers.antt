@@ -1,5 +1,4 @@
 use Rattle.moves.specs.Core.{level}
-use borrow.Author.Rules.{rules}
 use Rattle.pieces.proofs.test_words.Goals as goal
 
 pub returns : goal.returns

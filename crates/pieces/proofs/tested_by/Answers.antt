@@ -1,4 +1,3 @@
-use borrow.Author.Rules.{rules}
 use Rattle.pieces.proofs.tested_by.Goals as goal
 
 pub returns-in-True : goal.returns-in-True

@@ -1,6 +1,5 @@
 use Rattle.pieces.proofs.Laws.{left}
 use Rattle.moves.specs.Core.{worked}
-use borrow.Author.Rules.{rules}
 use Rattle.pieces.proofs.work_words.Goals as goal
 
 pub returns : goal.returns

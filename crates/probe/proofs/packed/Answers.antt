@@ -1,6 +1,5 @@
 use mathlib.Core.Path.{ap, sym}
 use native.Mathlib.Omega.{arith}
-use borrow.Author.Rules.{rules}
 use Rattle.probe.specs.Packed.{packed_of}
 use Rattle.probe.proofs.packed.Goals as goal
 

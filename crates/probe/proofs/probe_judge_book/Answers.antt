@@ -1,7 +1,6 @@
 use Rattle.probe.proofs.Judgements.{book_small}
 use Rattle.probe.specs.Judgements.{book_packed}
 use mathlib.Core.Path.{ap, ◌∙◌}
-use borrow.Author.Rules.{rules}
 use Rattle.probe.proofs.probe_judge_book.Goals as goal
 
 pub book_packed-requires : goal.book_packed-requires

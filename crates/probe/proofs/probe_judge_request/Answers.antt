@@ -1,7 +1,6 @@
 use Rattle.probe.proofs.Judgements.{request_small}
 use Rattle.probe.specs.Judgements.{request_packed}
 use mathlib.Core.Path.{ap, ◌∙◌}
-use borrow.Author.Rules.{rules}
 use Rattle.probe.proofs.probe_judge_request.Goals as goal
 
 pub request_packed-requires : goal.request_packed-requires

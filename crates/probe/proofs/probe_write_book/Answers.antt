@@ -1,6 +1,5 @@
 use mathlib.Core.Path.{ap, ◌∙◌}
 use native.Mathlib.Omega.{arith}
-use borrow.Author.Rules.{rules}
 use Rattle.text.specs.Text.{book}
 use Rattle.probe.specs.Packed.{packed_of}
 use Rattle.probe.proofs.Laws.{write_small}

@@ -1,7 +1,6 @@
 use Rattle.probe.specs.Judgements.{request_packed}
 use native.Mathlib.Omega.{arith}
 use mathlib.Core.Path.{ap, sym, ◌∙◌}
-use borrow.Author.Rules.{rules}
 use Rattle.probe.proofs.request_packed.Goals as goal
 
 pub overflow_mul-result : goal.overflow_mul-result

@@ -5,7 +5,6 @@ use Rattle.programme.specs.Step.{state_of}
 use Rattle.meaning.specs.Reading.{bags_of}
 use mathlib.Core.Path.{sym}
 use native.Mathlib.Omega.{arith}
-use borrow.Author.Rules.{rules}
 use Rattle.programme.proofs.step_in.Goals as goal
 
 pub offset_bounds-frames-depth : goal.offset_bounds-frames-depth

@@ -1,5 +1,4 @@
 use native.Mathlib.Omega.{arith}
-use borrow.Author.Rules.{rules}
 use Rattle.rig.proofs.Laws.{fresh_few_numbers, fresh_few_places, fresh_put}
 use Rattle.rig.proofs.bachumoi_fresh.Goals as goal
 

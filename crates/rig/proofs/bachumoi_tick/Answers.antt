@@ -1,8 +1,4 @@
-use Prim.Native.Nat.{◌≤◌}
-use lib.ListN.{length}
-use borrow.Author.Rules.{rules}
 use Rattle.rig.proofs.Laws.{refused_line, running_fits, finished_fits, tick_refused, tick_running, tick_finished}
-use Rattle.layout.specs.Room.{room_p}
 use Rattle.rig.proofs.bachumoi_tick.Goals as goal
 
 pub refusal_number-requires : goal.refusal_number-requires

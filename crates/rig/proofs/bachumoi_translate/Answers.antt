@@ -1,6 +1,5 @@
 use mathlib.Core.Path.{ap, sym, ◌∙◌}
 use native.Mathlib.Omega.{arith}
-use borrow.Author.Rules.{rules}
 use Rattle.rig.specs.Rig.{translated_number}
 use Rattle.rig.proofs.Laws.{entries_few, refused_translating, translates}
 use Rattle.rig.proofs.bachumoi_translate.Goals as goal

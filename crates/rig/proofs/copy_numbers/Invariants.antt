@@ -1,10 +1,6 @@
 use Prim.Native.Nat.{◌≤◌, ◌-◌}
-use mathlib.Core.Path.{refl}
 use lib.ListN.{length}
-use native.Mathlib.Omega.{arith}
-use borrow.Author.Rules.{rules}
-use Rattle.record.proofs.Filling.{Filled, fill_none, fill_more}
-use Rattle.rig.proofs.Laws.{copied_all}
+use Rattle.record.proofs.Filling.{Filled}
 use Rattle.rig.proofs.copy_numbers.Given as goal
 
 abbrev pub invariant-loop-i : goal.invariant-loop-i

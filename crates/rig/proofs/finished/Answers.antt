@@ -1,4 +1,3 @@
-use borrow.Author.Rules.{rules}
 use Rattle.rig.proofs.finished.Goals as goal
 
 pub returns : goal.returns

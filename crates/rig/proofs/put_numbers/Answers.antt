@@ -1,6 +1,5 @@
 use native.Mathlib.Omega.{arith}
 use lib.ListN.{length-set}
-use borrow.Author.Rules.{rules}
 use Rattle.rig.proofs.Laws.{put_frames, put_numbers, put_length}
 use Rattle.rig.proofs.put_numbers.Goals as goal
 

@@ -1,6 +1,5 @@
 use mathlib.Core.Path.{◌∙◌}
 use mathlib.Core.List.{append-nil}
-use borrow.Author.Rules.{rules}
 use Rattle.rig.proofs.Laws.{few_numbers, few_places, held}
 use Rattle.rig.proofs.state_in.Goals as goal
 

@@ -1,13 +1,10 @@
-use mathlib.Core.Path.{◌≡◌, ◌∙◌}
+use mathlib.Core.Path.{◌≡◌}
 use Prim.Native.Nat.{◌+◌, ◌-◌}
 use Rattle.record.specs.Forest.{forest}
 use Rattle.meaning.specs.Meaning.{condition_of, conditions_of}
 use Rattle.meaning.specs.Reading.{condition_from, conditions_in, bags_of}
-use Rattle.rules.proofs.Loops.{join_then, join_none, join_turn, join_stop, join_end}
-use Rattle.rules.proofs.Laws.{conditions_more, conditions_none, is_joined, is_comparison, not_none, not_more}
-use native.Mathlib.Omega.{arith}
-use borrow.Author.Rules.{rules}
-use Prim.Native.Nat.{ℕ, ◌<◌}
+use Rattle.rules.proofs.Loops.{join_then}
+use Prim.Native.Nat.{◌<◌}
 use Rattle.rules.proofs.+condition.Given as goal
 
 abbrev pub invariant-loop-left : goal.invariant-loop-left

@@ -1,4 +1,3 @@
-use borrow.Author.Rules.{rules}
 use Rattle.rules.proofs.compared.Goals as goal
 
 pub returns : goal.returns

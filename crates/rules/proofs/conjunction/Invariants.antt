@@ -1,13 +1,11 @@
-use borrow.Author.Rules.{rules}
-use native.Mathlib.Omega.{arith}
 use mathlib.Core.Path.{◌≡◌}
 use Prim.Native.Nat.{◌+◌, ◌-◌}
 use Rattle.record.specs.Forest.{forest}
 use Rattle.meaning.specs.Logic.{and_all, and_of}
 use Rattle.meaning.specs.Meaning.{match_of, conjunction_of}
 use Rattle.meaning.specs.Reading.{conjunction_at, bags_of}
-use Rattle.rules.proofs.Loops.{ands, ands_settle, then, turn, stop, end}
-use Rattle.rules.proofs.Laws.{truths, truths_none, match_read, matches_more, conjunction_all}
+use Rattle.rules.proofs.Loops.{then}
+use Rattle.rules.proofs.Laws.{truths, match_read}
 use Rattle.rules.proofs.conjunction.Given as goal
 
 abbrev pub invariant-loop-left : goal.invariant-loop-left

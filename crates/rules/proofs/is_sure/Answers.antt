@@ -1,5 +1,4 @@
 use Rattle.rules.proofs.Loops.{sure_true, sure_false, sure_never}
-use borrow.Author.Rules.{rules}
 use Rattle.rules.proofs.is_sure.Goals as goal
 
 pub returns-in-True : goal.returns-in-True

@@ -1,4 +1,3 @@
-use borrow.Author.Rules.{rules}
 use Rattle.rules.proofs.joined.Goals as goal
 
 pub returns-then-all : goal.returns-then-all

@@ -1,5 +1,4 @@
 use Rattle.meaning.specs.Reading.{match_at}
-use borrow.Author.Rules.{rules}
 use Rattle.rules.proofs.match_at.Goals as goal
 
 pub returns : goal.returns

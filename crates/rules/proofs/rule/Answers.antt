@@ -1,4 +1,3 @@
-use borrow.Author.Rules.{rules}
 use Rattle.rules.proofs.Laws.{rule_no, rule_lost, rule_yes}
 use Rattle.rules.proofs.rule.Goals as goal
 

@@ -1,11 +1,7 @@
-use borrow.Author.Rules.{rules}
 use native.Mathlib.Omega.{arith}
-use mathlib.Core.Path.{◌≡◌, refl}
-use Prim.Native.Nat.{◌+◌, ◌≤◌}
-use Rattle.record.specs.Forest.{forest}
-use Rattle.meaning.specs.Meaning.{over_rules, verdict_of, rule_children}
-use Rattle.meaning.specs.Reading.{rules_by, rules_in, bags_of}
-use Rattle.rules.proofs.Laws.{ruled, rules_all, rules_end, not_only, rules_skip, rules_stop, rules_turn}
+use mathlib.Core.Path.{refl}
+use Rattle.meaning.specs.Reading.{rules_by}
+use Rattle.rules.proofs.Laws.{rules_all, rules_end, not_only, rules_skip, rules_stop, rules_turn}
 use Rattle.rules.proofs.rules.Goals as goal
 
 pub loop-left-init : goal.loop-left-init

@@ -1,13 +1,11 @@
-use borrow.Author.Rules.{rules}
-use native.Mathlib.Omega.{arith}
 use mathlib.Core.Path.{◌≡◌}
 use Prim.Native.Nat.{◌+◌, ◌-◌}
 use Rattle.record.specs.Forest.{forest}
 use Rattle.meaning.specs.Logic.{or_all, or_of}
 use Rattle.meaning.specs.Meaning.{conjunction_of, section_of}
 use Rattle.meaning.specs.Reading.{conjunction_at, section_at, bags_of}
-use Rattle.rules.proofs.Loops.{ors, ors_settle, then, turn, stop, end}
-use Rattle.rules.proofs.Laws.{truths, truths_none, conjunctions_more, section_all}
+use Rattle.rules.proofs.Loops.{then}
+use Rattle.rules.proofs.Laws.{truths}
 use Rattle.rules.proofs.section.Given as goal
 
 abbrev pub invariant-loop-left : goal.invariant-loop-left

@@ -1,13 +1,10 @@
-use borrow.Author.Rules.{rules}
-use native.Mathlib.Omega.{arith}
-use mathlib.Core.Path.{◌≡◌, refl}
+use mathlib.Core.Path.{◌≡◌}
 use Prim.Native.Nat.{◌+◌, ◌≤◌}
 use Rattle.record.specs.Forest.{forest}
 use Rattle.meaning.specs.Logic.{target_all, target_and}
 use Rattle.meaning.specs.Meaning.{sections_of, target_of}
 use Rattle.meaning.specs.Reading.{target_in, bags_of}
-use Rattle.rules.proofs.Loops.{targets, targets_stop, then, turn, end}
-use Rattle.rules.proofs.Laws.{sections_more, sections_over, sections_none}
+use Rattle.rules.proofs.Loops.{then}
 use Rattle.rules.proofs.target.Given as goal
 
 abbrev pub invariant-loop-left : goal.invariant-loop-left

@@ -1,5 +1,4 @@
 use Rattle.meaning.specs.Reading.{test_at}
-use borrow.Author.Rules.{rules}
 use Rattle.rules.proofs.test_at.Goals as goal
 
 pub returns : goal.returns

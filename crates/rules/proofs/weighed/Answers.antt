@@ -1,5 +1,4 @@
 use Rattle.rules.proofs.Laws.{weighs_few, weighs_two}
-use borrow.Author.Rules.{rules}
 use mathlib.Core.Path.{refl}
 use Rattle.rules.proofs.weighed.Goals as goal
 

@@ -1,10 +1,5 @@
-use borrow.Author.Rules.{rules}
 use native.Mathlib.Omega.{arith}
-use mathlib.Core.Path.{◌≡◌, refl}
-use Prim.Native.Nat.{◌+◌, ◌≤◌}
-use Rattle.record.specs.Forest.{forest}
-use Rattle.meaning.specs.Meaning.{when_of}
-use Rattle.meaning.specs.Reading.{when_in, bags_of}
+use mathlib.Core.Path.{refl}
 use Rattle.rules.proofs.Laws.{when_here, when_later, when_none}
 use Rattle.rules.proofs.when.Goals as goal
 

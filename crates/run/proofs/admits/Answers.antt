@@ -1,13 +1,6 @@
-use Prim.Native.Nat.{◌+◌}
-use mathlib.Core.Path.{◌≡◌}
-use lib.Dec.{leb}
 use native.Mathlib.Omega.{arith}
 use borrow.Author.Tests.{le-leb, lt-leb}
-use borrow.Author.Rules.{rules}
-use Rattle.record.specs.Choose.{both}
-use Rattle.run.specs.Tick.{admitted}
 use Rattle.run.proofs.Laws.{stacks_small, admit_none, admit_long, admit_high, admit_by}
-use Rattle.layout.specs.Room.{room_p}
 use Rattle.run.proofs.admits.Goals as goal
 
 pub returns-then-long-eq0 : goal.returns-then-long-eq0

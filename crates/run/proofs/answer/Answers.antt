@@ -1,5 +1,4 @@
 use borrow.Author.Tests.{not-true, not-false}
-use borrow.Author.Rules.{rules}
 use Rattle.run.proofs.Laws.{answer_running, answer_finished}
 use Rattle.run.proofs.answer.Goals as goal
 

@@ -1,5 +1,4 @@
 use native.Mathlib.Omega.{arith}
-use borrow.Author.Rules.{rules}
 use Rattle.run.proofs.Laws.{number_made}
 use Rattle.run.proofs.number.Goals as goal
 

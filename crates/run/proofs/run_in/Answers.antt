@@ -1,16 +1,10 @@
-use Prim.Native.Nat.{◌≤◌, ◌-◌}
-use mathlib.Core.Path.{◌≡◌, sym, subst}
+use mathlib.Core.Path.{sym, subst}
 use native.Mathlib.Omega.{arith}
 use borrow.Author.Tests.{not-true, not-false}
-use borrow.Author.Rules.{rules}
-use Rattle.programme.specs.Step.{state_of}
-use Rattle.layout.specs.Layout.{unpack_of}
 use Rattle.layout.specs.Ranges.{Ranged}
 use Rattle.layout.specs.declared.Head.{Head}
 use Rattle.layout.proofs.Coding.{ranged, held}
-use Rattle.meaning.specs.Reading.{bags_of}
-use Rattle.run.specs.Run.{number_after}
-use Rattle.run.proofs.Laws.{Along, run_start, run_over, run_bad, run_more, run_out, apart_on}
+use Rattle.run.proofs.Laws.{run_start, run_over, run_bad, run_more, run_out, apart_on}
 use Rattle.run.proofs.run_in.Goals as goal
 
 pub loop-steps-init : goal.loop-steps-init

@@ -1,6 +1,5 @@
 use mathlib.Core.Path.{◌∙◌}
 use borrow.Author.Tests.{not-true, not-false}
-use borrow.Author.Rules.{rules}
 use Rattle.run.proofs.Laws.{admit_parts, tick_request, tick_short, tick_refused, tick_ran, tick_bad, tick_running, tick_finished, count_small}
 use Rattle.run.proofs.tick.Goals as goal
 use Rattle.run.proofs.tick.Goals.{then-h, else-h}

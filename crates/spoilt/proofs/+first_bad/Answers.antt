@@ -1,11 +1,6 @@
-use Prim.Native.Nat.{ℕ, ◌≤◌, ◌<◌, ◌-◌}
 use mathlib.Core.Path.{◌≡◌, refl, sym, ◌∙◌}
-use Rattle.spoilt.specs.Places.{parent, bad_at}
-use Rattle.spoilt.proofs.Lines.{kept}
 use Rattle.spoilt.proofs.Walk.{passed, bounds, bad_end, bad_here, bad_leaf, bad_in, bad_on}
 use native.Mathlib.Omega.{arith}
-use borrow.Author.Rules.{rules}
-use borrow.Author.Tests.{not-true, not-false}
 use Rattle.spoilt.proofs.+first_bad.Goals as goal
 
 pub loop-i-init : goal.loop-i-init

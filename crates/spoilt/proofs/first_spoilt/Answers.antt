@@ -1,10 +1,5 @@
-use Prim.Native.Nat.{◌≤◌, ◌<◌, ◌-◌}
 use mathlib.Core.Path.{◌≡◌, refl, sym, ◌∙◌}
 use native.Mathlib.Omega.{arith}
-use borrow.Author.Rules.{rules}
-use borrow.Author.Tests.{not-true, not-false}
-use Rattle.spoilt.specs.Places.{parent, spoilt_at}
-use Rattle.spoilt.proofs.Lines.{kept}
 use Rattle.spoilt.proofs.Walk.{passed, bounds, spoilt_end, spoilt_here, spoilt_over, spoilt_in, spoilt_on}
 use Rattle.spoilt.proofs.first_spoilt.Goals as goal
 

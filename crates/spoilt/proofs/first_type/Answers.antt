@@ -1,4 +1,3 @@
-use borrow.Author.Rules.{rules}
 use Rattle.spoilt.proofs.Lines.{type_none, type_first}
 use Rattle.spoilt.proofs.first_type.Goals as goal
 

@@ -1,5 +1,4 @@
 use mathlib.Core.Path.{sym, ◌∙◌}
-use borrow.Author.Rules.{rules}
 use borrow.Author.Tests.{not-true, not-false, eq-eqb, ne_eqb}
 use Rattle.spoilt.specs.Spoilt.{is_set}
 use Rattle.spoilt.proofs.is_set.Goals as goal

@@ -1,5 +1,4 @@
 use native.Mathlib.Omega.{arith}
-use borrow.Author.Rules.{rules}
 use borrow.Author.Tests.{not-true, not-false}
 use Rattle.spoilt.proofs.Lines.{field_by, line_field, line_long, line_deep, line_misplaced, line_ends, line_operands}
 use Rattle.spoilt.proofs.line_ok.Goals as goal

@@ -1,4 +1,3 @@
-use borrow.Author.Rules.{rules}
 use Rattle.spoilt.proofs.operands_in.Goals as goal
 
 pub returns-in-PolicySet : goal.returns-in-PolicySet

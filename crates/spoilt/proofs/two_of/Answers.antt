@@ -1,4 +1,3 @@
-use borrow.Author.Rules.{rules}
 use Rattle.spoilt.proofs.Lines.{two_none, two_one, two_more, two_other, two_same}
 use Rattle.spoilt.proofs.two_of.Goals as goal
 

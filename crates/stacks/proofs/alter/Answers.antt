@@ -1,7 +1,6 @@
 use Rattle.stacks.proofs.Carried.{push_full, push_room, swap_top, swap_under, go_back}
 use native.Mathlib.Omega.{arith}
 use lib.ListN.{length}
-use borrow.Author.Rules.{rules}
 use Rattle.stacks.proofs.alter.Goals as goal
 
 pub returns-then-stack-next : goal.returns-then-stack-next

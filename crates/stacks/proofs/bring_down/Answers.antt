@@ -1,10 +1,7 @@
 use Rattle.stacks.proofs.Carried.{copies_start, copies_more, copies_end}
-use Rattle.stacks.specs.Machine.{copies}
 use borrow.Author.Rules.{rules}
-use lib.ListN.{length, length-set}
+use lib.ListN.{length-set}
 use native.Mathlib.Omega.{arith}
-use mathlib.Core.Path.{◌≡◌}
-use Prim.Native.Nat.{◌+◌, ◌-◌, ◌≤◌}
 use Rattle.stacks.proofs.bring_down.Goals as goal
 
 pub loop-k-init : goal.loop-k-init

@@ -1,8 +1,5 @@
-use Rattle.stacks.proofs.Carried.{copies_start, copies_more, copies_end}
 use Rattle.stacks.specs.Machine.{copies}
-use borrow.Author.Rules.{rules}
-use lib.ListN.{length, length-set}
-use native.Mathlib.Omega.{arith}
+use lib.ListN.{length}
 use mathlib.Core.Path.{◌≡◌}
 use Prim.Native.Nat.{◌+◌, ◌-◌, ◌≤◌}
 use Rattle.stacks.proofs.bring_down.Given as goal

@@ -1,8 +1,6 @@
 use Rattle.stacks.proofs.Carried.{at_with, made_is, same_room}
-use mathlib.Core.Path.{◌≡◌}
 use lib.ListN.{length}
 use native.Mathlib.Omega.{arith}
-use borrow.Author.Rules.{rules}
 use Rattle.stacks.proofs.carry_out.Goals as goal
 
 pub overflow_add-result-2 : goal.overflow_add-result-2

@@ -1,6 +1,5 @@
 use Rattle.stacks.proofs.Carried.{place_rest, permit_full, permit_added, deny_full, deny_added, permit_fell, deny_fell, both_fell, place_cut, brought, permit_fits, deny_fits, enough_above}
 use native.Mathlib.Omega.{arith}
-use borrow.Author.Rules.{rules}
 use Rattle.stacks.proofs.place.Goals as goal
 
 pub returns-then-cut-permits : goal.returns-then-cut-permits

@@ -5,12 +5,10 @@ use native.Mathlib.Omega.{arith}
 use native.Mathlib.Nat.{zero-add}
 use lib.ListN.{length}
 use lib.Seq.{sets, sets-eq}
-use borrow.Author.Rules.{rules}
 use borrow.Author.Tests.{lt-ltb, le-ltb}
 use Rattle.record.specs.Refusals.{no_room}
 use Rattle.record.specs.declared.Refusal.{Refusal}
 use Rattle.judge.specs.Judge.{judge_of}
-use Rattle.placement.specs.Keeps.{Sized}
 use Rattle.judge.specs.declared.Judged.TheVariants as judged
 use Rattle.judge.proofs.Exactly.{accepted_keeps}
 use Rattle.meaning.specs.Reading.{book_of}

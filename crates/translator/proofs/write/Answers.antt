@@ -1,5 +1,4 @@
 use native.Mathlib.Omega.{arith}
-use borrow.Author.Rules.{rules}
 use Rattle.emission.proofs.Turns.{due_by, from_first}
 use Rattle.translator.proofs.write.Goals as goal
 

@@ -1,7 +1,6 @@
 use Rattle.weigh.proofs.Laws.{literal_is, attribute_is, without_operands, with_operands, second_behind}
 use native.Mathlib.Omega.{arith}
 use borrow.Author.Rules.{rules}
-use Prim.Native.Nat.{ℕ, ◌-◌, ◌<◌}
 use Rattle.weigh.proofs.+worth_at.Goals as goal
 
 pub returns-then-choice-eq2 : goal.returns-then-choice-eq2

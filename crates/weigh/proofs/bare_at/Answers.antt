@@ -1,6 +1,5 @@
 use Rattle.record.proofs.Laws.{big_four_at}
 use native.Mathlib.Omega.{arith}
-use borrow.Author.Rules.{rules}
 use Rattle.weigh.proofs.bare_at.Goals as goal
 
 pub returns-then-byte-lt128 : goal.returns-then-byte-lt128

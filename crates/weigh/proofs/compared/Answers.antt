@@ -1,6 +1,5 @@
 use Rattle.weigh.proofs.Laws.{second_behind, compared_is}
 use native.Mathlib.Omega.{arith}
-use borrow.Author.Rules.{rules}
 use Rattle.weigh.proofs.compared.Goals as goal
 
 pub worth_at-a-requires : goal.worth_at-a-requires

@@ -2,7 +2,6 @@ use Rattle.record.proofs.Forests.{span_le}
 use Rattle.weigh.specs.Two.{second_in}
 use Prim.Native.Nat.{◌+◌, ◌-◌}
 use native.Mathlib.Omega.{arith}
-use borrow.Author.Rules.{rules}
 use Rattle.weigh.proofs.second_in.Goals as goal
 
 pub returns-then-first-stop : goal.returns-then-first-stop

@@ -1,6 +1,5 @@
 use Rattle.weigh.proofs.Laws.{literal_type_lem, attribute_type, operator_type_lem, operator_below}
 use native.Mathlib.Omega.{arith}
-use borrow.Author.Rules.{rules}
 use Rattle.weigh.proofs.type_at.Goals as goal
 
 pub returns-then-choice-eq1 : goal.returns-then-choice-eq1

@@ -1,4 +1,3 @@
-use borrow.Author.Rules.{rules}
 use Rattle.weigh.proofs.weighed.Goals as goal
 
 pub returns-in-Holds-b : goal.returns-in-Holds-b

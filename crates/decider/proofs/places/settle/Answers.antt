@@ -1,5 +1,4 @@
 use Rattle.decider.proofs.Stack.{keep_both, keep_first}
-use borrow.Author.Rules.{rules}
 use Rattle.decider.proofs.places.settle.Goals as goal
 
 pub returns-then-old : goal.returns-then-old

@@ -1,8 +1,6 @@
-use Rattle.record.proofs.Filling.{Filled, fill_none}
+use Rattle.record.proofs.Filling.{fill_none}
 use Rattle.decider.proofs.Stack.{shift_more, shift_done}
-use lib.ListN.{drop}
-use Prim.Native.Nat.{◌-◌, ◌≤◌}
-use mathlib.Core.Path.{◌≡◌, refl}
+use mathlib.Core.Path.{refl}
 use native.Mathlib.Omega.{arith}
 use borrow.Author.Rules.{rules}
 use Rattle.decider.proofs.places.shift.Goals as goal

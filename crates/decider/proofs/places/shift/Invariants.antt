@@ -1,10 +1,7 @@
-use Rattle.record.proofs.Filling.{Filled, fill_none}
-use Rattle.decider.proofs.Stack.{shift_more, shift_done}
+use Rattle.record.proofs.Filling.{Filled}
 use lib.ListN.{drop}
 use Prim.Native.Nat.{◌-◌, ◌≤◌}
-use mathlib.Core.Path.{◌≡◌, refl}
-use native.Mathlib.Omega.{arith}
-use borrow.Author.Rules.{rules}
+use mathlib.Core.Path.{◌≡◌}
 use Rattle.decider.proofs.places.shift.Given as goal
 
 abbrev pub invariant-loop-k : goal.invariant-loop-k

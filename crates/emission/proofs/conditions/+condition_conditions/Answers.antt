@@ -1,10 +1,9 @@
-use Prim.Native.Nat.{ℕ, ◌+◌, ◌-◌, ◌*◌, ◌<◌}
 use mathlib.Core.Path.{refl}
 use native.Mathlib.Omega.{arith}
 use borrow.Author.Rules.{rules}
 use Rattle.elders.proofs.Links.{piece_of, linked_at}
 use Rattle.emission.proofs.Emit.{as_is, fits_as, same_as, differs, above, no_more, nothing, three, third_fits, second_fits, first_fits, op_at_lem, closes, opened, condition_zero, conditions_none}
-use Rattle.emission.proofs.Turns.{Going, conditions_to, go_begin, go_less, go_below, go_room, go_again, go_end, conditions_stop, conditions_turn, conditions_grow, cond_bare, cond_not, cond_parts, first_linked}
+use Rattle.emission.proofs.Turns.{conditions_to, go_begin, go_less, go_below, go_room, go_again, go_end, conditions_stop, conditions_turn, conditions_grow, cond_bare, cond_not, cond_parts, first_linked}
 use Rattle.emission.proofs.conditions.+condition_conditions.Goals as goal
 
 pub condition-comparison-requires : goal.condition-comparison-requires

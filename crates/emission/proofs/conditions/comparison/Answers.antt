@@ -1,5 +1,4 @@
 use Rattle.emission.proofs.Emit.{compared}
-use borrow.Author.Rules.{rules}
 use Rattle.emission.proofs.conditions.comparison.Goals as goal
 
 pub returns : goal.returns

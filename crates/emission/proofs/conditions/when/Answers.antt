@@ -1,8 +1,7 @@
-use Prim.Native.Nat.{◌-◌}
 use mathlib.Core.Path.{refl}
 use borrow.Author.Rules.{rules}
 use Rattle.elders.proofs.Links.{below_first}
-use Rattle.emission.proofs.Turns.{Seeking, seek_on, seek_long, seek_found, when_here, when_stop, emitted_long}
+use Rattle.emission.proofs.Turns.{seek_on, seek_long, seek_found, when_here, when_stop, emitted_long}
 use Rattle.emission.proofs.Emit.{nothing, fits_as, same_as, differs}
 use Rattle.emission.proofs.conditions.when.Goals as goal
 

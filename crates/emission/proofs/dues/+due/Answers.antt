@@ -1,10 +1,7 @@
 use mathlib.Core.Path.{sym, ◌∙◌}
-use Prim.Native.Nat.{ℕ, ◌-◌, ◌<◌}
-use borrow.Author.Rules.{rules}
-use Rattle.emission.proofs.Turns.{Counting, count_begin, count_own, count_else, count_flat, count_party, count_other, count_end}
+use Rattle.emission.proofs.Turns.{count_begin, count_own, count_else, count_flat, count_party, count_other, count_end}
 use Rattle.emission.proofs.Emit.{same_as, differs, effect_at}
 use borrow.Author.Tests.{not-true, not-false}
-use Rattle.meaning.specs.Reading.{effect_of}
 use Rattle.emission.proofs.dues.+due.Goals as goal
 
 pub loop-at-init : goal.loop-at-init

@@ -1,6 +1,6 @@
 use borrow.Author.Rules.{rules}
 use Rattle.emission.proofs.Emit.{finished}
-use Rattle.emission.proofs.Turns.{Ending, ending_begin, ending_room, ending_more, ending_end, emitted_long}
+use Rattle.emission.proofs.Turns.{ending_begin, ending_room, ending_more, ending_end, emitted_long}
 use Rattle.emission.proofs.dues.ends.Goals as goal
 
 pub loop-due-init : goal.loop-due-init

@@ -1,6 +1,4 @@
-use borrow.Author.Rules.{rules}
-use Rattle.emission.proofs.Emit.{finished}
-use Rattle.emission.proofs.Turns.{Ending, ending_begin, ending_room, ending_more, ending_end, emitted_long}
+use Rattle.emission.proofs.Turns.{Ending}
 use Rattle.emission.proofs.dues.ends.Given as goal
 
 abbrev pub invariant-loop-due : goal.invariant-loop-due

@@ -1,4 +1,3 @@
-use Prim.Native.Nat.{ℕ, ◌-◌, ◌<◌}
 use native.Mathlib.Omega.{arith}
 use borrow.Author.Rules.{rules}
 use Rattle.elders.proofs.Links.{below_first, below_rest}

@@ -1,8 +1,7 @@
 use mathlib.Core.Path.{refl}
 use native.Mathlib.Omega.{arith}
-use borrow.Author.Rules.{rules}
 use Rattle.elders.proofs.Links.{piece_of, linked_at}
-use Rattle.emission.proofs.Turns.{Going, go_begin, go_less, go_below, go_room, go_again, go_end, conjunctions_to, conjunctions_stop, conjunctions_turn, conjunctions_grow}
+use Rattle.emission.proofs.Turns.{go_begin, go_less, go_below, go_room, go_again, go_end, conjunctions_to, conjunctions_stop, conjunctions_turn, conjunctions_grow}
 use Rattle.emission.proofs.targets.conjunctions.Goals as goal
 
 pub loop-next-init : goal.loop-next-init

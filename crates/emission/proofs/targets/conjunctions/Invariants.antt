@@ -1,8 +1,4 @@
-use mathlib.Core.Path.{refl}
-use native.Mathlib.Omega.{arith}
-use borrow.Author.Rules.{rules}
-use Rattle.elders.proofs.Links.{piece_of, linked_at}
-use Rattle.emission.proofs.Turns.{Going, go_begin, go_less, go_below, go_room, go_again, go_end, conjunctions_to, conjunctions_stop, conjunctions_turn, conjunctions_grow}
+use Rattle.emission.proofs.Turns.{Going, conjunctions_to}
 use Rattle.emission.proofs.targets.conjunctions.Given as goal
 
 abbrev pub invariant-loop-next : goal.invariant-loop-next

@@ -1,5 +1,4 @@
 use Rattle.emission.proofs.Emit.{matched}
-use borrow.Author.Rules.{rules}
 use Rattle.emission.proofs.targets.match_entry.Goals as goal
 
 pub returns : goal.returns

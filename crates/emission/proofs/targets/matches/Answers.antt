@@ -1,6 +1,6 @@
 use mathlib.Core.Path.{refl}
 use borrow.Author.Rules.{rules}
-use Rattle.emission.proofs.Turns.{Going, go_begin, go_less, go_below, go_bytes, go_room, go_again, go_end, matches_to, matches_stop, matches_turn, matches_grow}
+use Rattle.emission.proofs.Turns.{go_begin, go_less, go_below, go_bytes, go_room, go_again, go_end, matches_to, matches_stop, matches_turn, matches_grow}
 use Rattle.emission.proofs.targets.matches.Goals as goal
 
 pub loop-next-init : goal.loop-next-init

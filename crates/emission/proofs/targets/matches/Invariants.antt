@@ -1,6 +1,4 @@
-use mathlib.Core.Path.{refl}
-use borrow.Author.Rules.{rules}
-use Rattle.emission.proofs.Turns.{Going, go_begin, go_less, go_below, go_bytes, go_room, go_again, go_end, matches_to, matches_stop, matches_turn, matches_grow}
+use Rattle.emission.proofs.Turns.{Going, matches_to}
 use Rattle.emission.proofs.targets.matches.Given as goal
 
 abbrev pub invariant-loop-next : goal.invariant-loop-next

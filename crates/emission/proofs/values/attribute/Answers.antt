@@ -1,4 +1,3 @@
-use borrow.Author.Rules.{rules}
 use Rattle.emission.proofs.Pieces.{asked}
 use Rattle.emission.proofs.values.attribute.Goals as goal
 

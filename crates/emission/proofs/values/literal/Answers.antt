@@ -1,4 +1,3 @@
-use borrow.Author.Rules.{rules}
 use Rattle.emission.proofs.Pieces.{loaded}
 use Rattle.emission.proofs.values.literal.Goals as goal
 

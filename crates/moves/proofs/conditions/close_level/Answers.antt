@@ -1,6 +1,5 @@
 use Rattle.moves.proofs.Outcome.{close_under}
 use Rattle.moves.specs.Core.{value_in}
-use borrow.Author.Rules.{rules}
 use Rattle.moves.proofs.conditions.close_level.Goals as goal
 
 pub returns-then-nest-eq0 : goal.returns-then-nest-eq0

@@ -1,4 +1,3 @@
-use borrow.Author.Rules.{rules}
 use Rattle.moves.proofs.conditions.fold_of.Goals as goal
 
 pub returns-in-All : goal.returns-in-All

@@ -1,5 +1,4 @@
 use Rattle.moves.proofs.Outcome.{tell_open}
-use borrow.Author.Rules.{rules}
 use Rattle.moves.proofs.conditions.tell_level.Goals as goal
 
 pub returns-then-nest-eq0 : goal.returns-then-nest-eq0

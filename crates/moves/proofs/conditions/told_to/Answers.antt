@@ -1,4 +1,3 @@
-use borrow.Author.Rules.{rules}
 use Rattle.moves.proofs.conditions.told_to.Goals as goal
 
 pub returns : goal.returns

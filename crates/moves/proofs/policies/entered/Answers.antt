@@ -1,4 +1,3 @@
-use borrow.Author.Rules.{rules}
 use Rattle.moves.proofs.policies.entered.Goals as goal
 
 pub returns : goal.returns

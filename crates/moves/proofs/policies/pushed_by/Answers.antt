@@ -1,4 +1,3 @@
-use borrow.Author.Rules.{rules}
 use Rattle.moves.proofs.policies.pushed_by.Goals as goal
 
 pub returns-in-Permit : goal.returns-in-Permit

@@ -1,4 +1,3 @@
-use borrow.Author.Rules.{rules}
 use Rattle.moves.proofs.policies.too_many.Goals as goal
 
 pub frame_word-w-requires : goal.frame_word-w-requires

@@ -1,5 +1,4 @@
 use Rattle.moves.proofs.Outcome.{conjunction_last}
-use borrow.Author.Rules.{rules}
 use Rattle.moves.proofs.targets.conjunction_done.Goals as goal
 
 pub returns-then-s : goal.returns-then-s

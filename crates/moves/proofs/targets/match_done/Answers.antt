@@ -1,5 +1,4 @@
 use Rattle.moves.proofs.Outcome.{match_last, match_false}
-use borrow.Author.Rules.{rules}
 use Rattle.moves.proofs.targets.match_done.Goals as goal
 
 pub returns-then-s : goal.returns-then-s

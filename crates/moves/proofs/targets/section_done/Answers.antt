@@ -1,5 +1,4 @@
 use Rattle.moves.proofs.Outcome.{section_false}
-use borrow.Author.Rules.{rules}
 use Rattle.moves.proofs.targets.section_done.Goals as goal
 
 pub returns-in-True : goal.returns-in-True

@@ -1,4 +1,3 @@
-use borrow.Author.Rules.{rules}
 use Rattle.moves.proofs.targets.section_held.Goals as goal
 
 pub returns-then-last : goal.returns-then-last

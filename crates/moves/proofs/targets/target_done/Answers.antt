@@ -1,4 +1,3 @@
-use borrow.Author.Rules.{rules}
 use Rattle.moves.proofs.targets.target_done.Goals as goal
 
 pub returns-in-True : goal.returns-in-True

@@ -3,7 +3,6 @@ use Rattle.layout.specs.Layout.{frame_of}
 use Rattle.moves.specs.Core.{core}
 use Rattle.layout.specs.Entry.{applies}
 use mathlib.Core.Path.{refl}
-use borrow.Author.Rules.{rules}
 use Rattle.programme.proofs.entries.applies_at.Goals as goal
 
 pub returns : goal.returns

@@ -4,7 +4,6 @@ use Rattle.moves.specs.Core.{core}
 use Rattle.layout.specs.Entry.{begin}
 use Prim.Native.Nat.{◌/◌, ◌%◌}
 use mathlib.Core.Path.{refl}
-use borrow.Author.Rules.{rules}
 use Rattle.programme.proofs.entries.begin_at.Goals as goal
 
 pub returns : goal.returns

@@ -2,7 +2,6 @@ use Rattle.programme.proofs.Found.{met, lawful_reach}
 use Rattle.moves.specs.Core.{core}
 use Rattle.layout.specs.Entry.{close}
 use mathlib.Core.Path.{refl}
-use borrow.Author.Rules.{rules}
 use Rattle.programme.proofs.entries.close_at.Goals as goal
 
 pub returns : goal.returns

@@ -1,4 +1,3 @@
-use borrow.Author.Rules.{rules}
 use Rattle.programme.proofs.entries.ending_by.Goals as goal
 
 pub returns : goal.returns

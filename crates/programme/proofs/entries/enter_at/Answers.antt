@@ -3,7 +3,6 @@ use Rattle.layout.specs.Layout.{algorithm_by}
 use Rattle.moves.specs.Core.{core}
 use Rattle.layout.specs.Entry.{enter}
 use mathlib.Core.Path.{refl}
-use borrow.Author.Rules.{rules}
 use Rattle.programme.proofs.entries.enter_at.Goals as goal
 
 pub returns : goal.returns

@@ -3,7 +3,6 @@ use Rattle.layout.specs.Layout.{frame_of}
 use Rattle.moves.specs.Core.{core}
 use Rattle.layout.specs.Entry.{leave}
 use mathlib.Core.Path.{refl}
-use borrow.Author.Rules.{rules}
 use Rattle.programme.proofs.entries.leave_at.Goals as goal
 
 pub frame_word-w-requires : goal.frame_word-w-requires

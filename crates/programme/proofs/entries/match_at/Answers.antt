@@ -6,7 +6,6 @@ use borrow.Author.Tests.{not-true, not-false}
 use native.Mathlib.Omega.{arith}
 use Prim.Native.Nat.{◌+◌}
 use mathlib.Core.Path.{refl, sym, ◌∙◌}
-use borrow.Author.Rules.{rules}
 use Rattle.programme.proofs.entries.match_at.Goals as goal
 
 pub returns-then-programme-at-lt3 : goal.returns-then-programme-at-lt3

@@ -2,7 +2,6 @@ use Rattle.programme.proofs.Found.{lawful_none, outside, lawful_beyond, found}
 use Rattle.layout.specs.Layout.{entry_by, frame_of}
 use Rattle.meaning.specs.Reading.{bags_of}
 use native.Mathlib.Omega.{arith}
-use borrow.Author.Rules.{rules}
 use Rattle.programme.proofs.entries.meet.Goals as goal
 
 pub returns-then-programme-at : goal.returns-then-programme-at

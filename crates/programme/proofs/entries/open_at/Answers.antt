@@ -3,7 +3,6 @@ use Rattle.layout.specs.Layout.{op_by}
 use Rattle.moves.specs.Core.{level, core}
 use Rattle.layout.specs.Entry.{opens}
 use mathlib.Core.Path.{refl}
-use borrow.Author.Rules.{rules}
 use Rattle.programme.proofs.entries.open_at.Goals as goal
 
 pub returns : goal.returns

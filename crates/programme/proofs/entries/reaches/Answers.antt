@@ -2,7 +2,6 @@ use borrow.Author.Tests.{le-leb, lt-leb}
 use native.Mathlib.Omega.{arith}
 use Prim.Native.Nat.{suc, ◌+◌}
 use mathlib.Core.Path.{sym}
-use borrow.Author.Rules.{rules}
 use Rattle.programme.proofs.entries.reaches.Goals as goal
 
 pub returns-then-long-at : goal.returns-then-long-at

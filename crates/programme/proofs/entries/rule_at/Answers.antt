@@ -4,7 +4,6 @@ use Rattle.moves.specs.Core.{core}
 use Rattle.layout.specs.Entry.{rule}
 use Prim.Native.Nat.{◌/◌, ◌%◌}
 use mathlib.Core.Path.{refl}
-use borrow.Author.Rules.{rules}
 use Rattle.programme.proofs.entries.rule_at.Goals as goal
 
 pub frame_word-w-requires : goal.frame_word-w-requires

@@ -1,7 +1,6 @@
 use Rattle.programme.proofs.Pieces.{load_outside, load_does, ask_does, work_does, test_does}
 use native.Mathlib.Omega.{arith}
 use Prim.Native.Nat.{◌+◌}
-use borrow.Author.Rules.{rules}
 use Rattle.programme.proofs.entries.sum_at.Goals as goal
 
 pub returns-then-programme-at-lt2 : goal.returns-then-programme-at-lt2

@@ -1,5 +1,4 @@
 use Rattle.layout.specs.Layout.{test_of}
-use borrow.Author.Rules.{rules}
 use Rattle.programme.proofs.entries.test_by.Goals as goal
 
 pub returns : goal.returns

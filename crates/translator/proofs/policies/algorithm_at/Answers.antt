@@ -1,5 +1,4 @@
 use Rattle.emission.proofs.Emit.{set_algorithm, policy_algorithm}
-use borrow.Author.Rules.{rules}
 use Rattle.translator.proofs.policies.algorithm_at.Goals as goal
 
 pub returns-then-byte-eq1 : goal.returns-then-byte-eq1

@@ -1,6 +1,6 @@
 use native.Mathlib.Omega.{arith}
 use borrow.Author.Rules.{rules}
-use Rattle.emission.proofs.Turns.{Going, go_begin, go_less, go_below, go_bytes, go_room, go_again, go_skip, go_end, obligations_to, obligations_stop, obligations_turn, obligations_skip, obligations_grow}
+use Rattle.emission.proofs.Turns.{go_begin, go_less, go_below, go_bytes, go_room, go_again, go_skip, go_end, obligations_to, obligations_stop, obligations_turn, obligations_skip, obligations_grow}
 use Rattle.emission.proofs.Emit.{nothing, same_as, differs, effect_at, obliged, obligations_none}
 use Rattle.translator.proofs.policies.obligations.Goals as goal
 

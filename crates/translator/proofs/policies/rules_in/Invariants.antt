@@ -1,8 +1,4 @@
-use native.Mathlib.Omega.{arith}
-use borrow.Author.Rules.{rules}
-use Rattle.elders.proofs.Links.{piece_of, linked_at}
-use Rattle.emission.proofs.Turns.{Going, go_begin, go_less, go_below, go_bytes, go_room, go_again, go_skip, go_end, rules_to, rules_stop, rules_turn, rules_skip, rules_grow}
-use Rattle.emission.proofs.Emit.{nothing, same_as, differs, rules_none}
+use Rattle.emission.proofs.Turns.{Going, rules_to}
 use Rattle.translator.proofs.policies.rules_in.Given as goal
 
 abbrev pub invariant-loop-next : goal.invariant-loop-next
