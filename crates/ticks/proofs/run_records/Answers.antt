@@ -1,6 +1,5 @@
 use lib.ListN.{length-take}
 use native.Mathlib.Omega.{arith}
-use borrow.Author.Rules.{rules}
 use Rattle.ticks.proofs.Fits.{entries_fit}
 use Rattle.ticks.proofs.run_records.Goals as goal
 

@@ -1,6 +1,5 @@
 use lib.ListN.{length-take}
 use native.Mathlib.Omega.{arith}
-use borrow.Author.Rules.{rules}
 use Rattle.text.proofs.Accepted.{read_fits}
 use Rattle.ticks.proofs.run_texts.Goals as goal
 

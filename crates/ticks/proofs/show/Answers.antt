@@ -1,6 +1,5 @@
 use lib.ListN.{length-take}
 use native.Mathlib.Omega.{arith}
-use borrow.Author.Rules.{rules}
 use Rattle.ticks.proofs.Printed.{leads_within}
 use Rattle.ticks.proofs.show.Goals as goal
 
