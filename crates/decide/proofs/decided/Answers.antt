@@ -1,7 +1,6 @@
 use lib.ListN.{length-take}
 use mathlib.Core.Path.{◌∙◌}
 use native.Mathlib.Omega.{arith}
-use borrow.Author.Rules.{rules}
 use Rattle.text.proofs.Accepted.{read_fits}
 use Rattle.decide.proofs.Laws.{refusal_stands, printed_book, printed_request, printed_decided}
 use Rattle.decide.proofs.decided.Goals as goal

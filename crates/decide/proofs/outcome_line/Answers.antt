@@ -1,4 +1,3 @@
-use borrow.Author.Rules.{rules}
 use mathlib.Core.Path.{ap, ◌∙◌}
 use Rattle.meaning.specs.Numbers.{number_of}
 use Rattle.decide.proofs.Laws.{decided_stands, decided_refused, refusal_stands}

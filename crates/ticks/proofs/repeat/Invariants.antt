@@ -1,8 +1,4 @@
-use borrow.Author.Rules.{rules}
 use Rattle.ticks.proofs.repeat.Given as goal
 
-abbrev pub invariant-loop-left : goal.invariant-loop-left
-invariant-loop-left l = Unit {0}
-
 abbrev pub decreases-loop-left : goal.decreases-loop-left
-decreases-loop-left l = l.left
+decreases-loop-left g l = l.left

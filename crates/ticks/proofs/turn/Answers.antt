@@ -5,8 +5,8 @@ use Rattle.run.proofs.Bounds.{few_steps}
 use Rattle.ticks.proofs.turn.Goals as goal
 
 pub show-requires : goal.show-requires
-show-requires c = (omega (arith, few_steps _ _ _ _ _ c.tick-ticked.ensures.0), search rules)
+show-requires g c = (omega (arith, few_steps _ _ _ _ _ c.tick-ticked.ensures.0), search rules)
 
 pub returns : goal.returns
 unfolding after_of
-returns c = rw (c.is_running.ensures, c.tick-ticked.ensures.0)
+returns g c = rw (c.is_running.ensures, c.tick-ticked.ensures.0)

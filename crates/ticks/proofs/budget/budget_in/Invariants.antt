@@ -1,13 +1,8 @@
 use lib.ListN.{length}
 use Prim.Native.Nat.{◌<◌, ◌≤◌, ◌-◌}
 use mathlib.Core.Bool.{true}
-use mathlib.Core.Path.{◌≡◌, refl}
-use native.Mathlib.Omega.{arith}
-use borrow.Author.Rules.{rules}
+use mathlib.Core.Path.{◌≡◌}
 use Rattle.record.specs.Below.{all_below}
-use Rattle.record.proofs.Choose.{in_among, below_among, above_among}
-use Rattle.record.proofs.Below.{all_more}
-use Rattle.ticks.proofs.Decimal.{decimal_none, decimal_more, budget_empty, budget_other, budget_large, budget_done}
 use Rattle.ticks.specs.Budget.{is_decimal, decimal_of}
 use Rattle.ticks.proofs.budget.budget_in.Given as goal
 

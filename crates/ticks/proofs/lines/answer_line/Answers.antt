@@ -2,7 +2,6 @@ use mathlib.Core.Path.{ap, ◌∙◌}
 use Rattle.meaning.specs.Numbers.{number_of}
 use lib.ListN.{length-set}
 use native.Mathlib.Omega.{arith}
-use borrow.Author.Rules.{rules}
 use Rattle.ticks.proofs.Printed.{running_put, finished_put, refused_put}
 use Rattle.ticks.proofs.lines.answer_line.Goals as goal
 

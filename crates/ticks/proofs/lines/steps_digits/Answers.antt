@@ -1,4 +1,3 @@
-use borrow.Author.Rules.{rules}
 use Rattle.ticks.proofs.Printed.{steps_are}
 use Rattle.ticks.proofs.lines.steps_digits.Goals as goal
 
