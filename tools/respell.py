@@ -1,7 +1,7 @@
 #!/usr/bin/env python3
 """Spells this repository's own definitions, lemmas, fields and locals in snake case, in specs/, proofs/ and the clauses of src/.
 
-usage: tools/respell [--check]     at the top of the repository, once, after the kit's port.py
+usage: python3 tools/respell.py [--check]     at the top of the repository, once, after the kit's port.py
 
 A name is the repository's own where an .antt file of crates/ declares it, binds it by `let`, or has it as a constructor or a field.
 In a file that imports a name of the same spelling from a library, that name stays. Functions of src/ and all strings stay.

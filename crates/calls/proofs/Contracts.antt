@@ -1,5 +1,6 @@
--- What the contract of each exported function says of a call is what the claims speak of. `Post` is what Rattle reads off the source's `ensures`: `a` are the
--- arguments of a call, x its number, and s the lent slices after it. Assumes nothing.
+-- What the contract of each function that `host_c` and `rig_c` export says of a call is what the claims speak of: an export repeats the clauses of the function
+-- that it calls. `Post` is what Rattle reads off the source's `ensures`: `a` are the arguments of a call, x its number, and s the lent slices after it. Assumes
+-- nothing.
 use Prim.Native.Nat.{◌*◌, ◌/◌, ◌%◌}
 use mathlib.Core.Path.{◌≡◌, refl}
 use lib.ListN.{length, take}
