@@ -1,15 +1,15 @@
 -- Causes beside the walk: what is kept of them is what document 02, section 4, says. Assumes nothing.
+use Rattle.std.specs.Prelude.{None, Some}
 use mathlib.Core.Path.{◌≡◌, refl, sym, ap, ap₂, ◌∙◌}
 use mathlib.Core.Bool.{Bool, true, false}
 use mathlib.Core.List.{List, [], ◌∷◌}
+use Rattle.meaning.specs.Cause.{Cause}
 use Rattle.record.specs.Choose.{if}
 use Rattle.sums.specs.declared.Status.TheVariants.{Processing}
 use Rattle.meaning.specs.Logic.{is_true, or_else, first}
 use Rattle.meaning.specs.Meaning.{coded, decision_in, cause_in, Child, verdict_in, said, applying, keep, is_only, evaluated, met, walked, cause_of, verdict_of}
 use Rattle.meaning.specs.declared.Truth.{Truth}
 use Rattle.meaning.specs.declared.Truth.TheVariants.{True, False, Unknown}
-use Rattle.meaning.specs.declared.Cause.{Cause}
-use Rattle.meaning.specs.declared.Cause.TheVariants.{NoCause, By}
 use Rattle.meaning.specs.declared.Decision.{Decision}
 use Rattle.meaning.specs.declared.Algorithm.{Algorithm}
 use Rattle.meaning.specs.declared.Algorithm.TheVariants.{RulesDeny, RulesPermit, First, PoliciesDeny, PoliciesPermit, OnlyOne}
@@ -26,12 +26,12 @@ use Rattle.algorithm.proofs.Walk.{takes_on, takes, walk, result_right, Stops, st
 abbrev pub causes_on : Bool → Truth → Acc → Cause → Child → Cause
 causes_on false t acc k c = or_else k (cause_in (verdict_in c))
 causes_on true False acc k c = k
-causes_on true (Unknown s) acc k c = By s
+causes_on true (Unknown s) acc k c = Some s
 causes_on true True Nobody k c = or_else (cause_in c.body) k
-causes_on true True Pending k c = By Processing
-causes_on true True Two k c = By Processing
-causes_on true True (One d) k c = By Processing
-causes_on true True (Ranked r) k c = By Processing
+causes_on true True Pending k c = Some Processing
+causes_on true True Two k c = Some Processing
+causes_on true True (One d) k c = Some Processing
+causes_on true True (Ranked r) k c = Some Processing
 
 abbrev pub tallies_on : Bool → Algorithm → Tally → Child → Tally
 tallies_on b up k c = record { acc = takes_on b c.target k.acc up c; cause = causes_on b c.target k.acc k.cause c }
@@ -61,12 +61,12 @@ walks_acc up k (c ∷ cs) = go (settled up (takes up k.acc c)) (walks_acc up (ta
     go false h = h
 
 or_assoc : (a b c : Cause) → or_else (or_else a b) c ≡ or_else a (or_else b c)
-or_assoc NoCause b c = refl
-or_assoc (By s) b c = refl
+or_assoc None b c = refl
+or_assoc (Some s) b c = refl
 
-or_none : (a : Cause) → or_else a NoCause ≡ a
-or_none NoCause = refl
-or_none (By s) = refl
+or_none : (a : Cause) → or_else a None ≡ a
+or_none None = refl
+or_none (Some s) = refl
 
 -- of every algorithm but only-one: the first of the children up to the stop
 module _ (a : Algorithm) (plain : is_only a ≡ false) where
@@ -124,18 +124,18 @@ only_cause [] = refl
 only_cause (c ∷ cs) = go c.target (only_cause cs)
   where
     go : (t : Truth) → (walks OnlyOne (fresh OnlyOne) cs).cause ≡ cause_of OnlyOne cs
-        → (if (settled OnlyOne (takes_on true t Nobody OnlyOne c)) (record { acc = takes_on true t Nobody OnlyOne c; cause = causes_on true t Nobody NoCause c }) (walks OnlyOne (record { acc = takes_on true t Nobody OnlyOne c; cause = causes_on true t Nobody NoCause c }) cs)).cause
+        → (if (settled OnlyOne (takes_on true t Nobody OnlyOne c)) (record { acc = takes_on true t Nobody OnlyOne c; cause = causes_on true t Nobody None c }) (walks OnlyOne (record { acc = takes_on true t Nobody OnlyOne c; cause = causes_on true t Nobody None c }) cs)).cause
         ≡ or_else (met false t (walked (is_true t) cs)) (first (λ c. cause_in c.body) (keep t c (applying cs)))
     go True h = rw (or_none (cause_in c.body)) (only_rest (decision_in c.body) (cause_in c.body) cs ∙ none_after cs (cause_in c.body))
     go False h = h
     go (Unknown s) h = refl
 
 cause_right : (a : Algorithm) (cs : List Child) → (walks a (fresh a) cs).cause ≡ cause_of a cs
-cause_right RulesDeny cs = ranked_cause RulesDeny refl cs R0 NoCause refl
-cause_right RulesPermit cs = ranked_cause RulesPermit refl cs R0 NoCause refl
-cause_right First cs = ranked_cause First refl cs R0 NoCause refl
-cause_right PoliciesDeny cs = ranked_cause PoliciesDeny refl cs R0 NoCause refl
-cause_right PoliciesPermit cs = ranked_cause PoliciesPermit refl cs R0 NoCause refl
+cause_right RulesDeny cs = ranked_cause RulesDeny refl cs R0 None refl
+cause_right RulesPermit cs = ranked_cause RulesPermit refl cs R0 None refl
+cause_right First cs = ranked_cause First refl cs R0 None refl
+cause_right PoliciesDeny cs = ranked_cause PoliciesDeny refl cs R0 None refl
+cause_right PoliciesPermit cs = ranked_cause PoliciesPermit refl cs R0 None refl
 cause_right OnlyOne cs = only_cause cs
 
 pub verdict_right : (a : Algorithm) (cs : List Child) → verdict_so_far a (walks a (fresh a) cs) ≡ verdict_of a cs

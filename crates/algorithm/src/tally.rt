@@ -17,7 +17,7 @@ pub fn begin(a: Algorithm) -> Tally
 {
     Tally {
         acc: crate::begin(a),
-        cause: Cause::NoCause,
+        cause: None,
     }
 }
 
@@ -25,21 +25,16 @@ pub fn begin(a: Algorithm) -> Tally
 fn note(only: bool, before: Cause, now: Cause) -> Cause
     ensures { result ≡ noting only before now }
 {
-    if only {
-        return meaning::or_else(now, before);
-    }
-    meaning::or_else(before, now)
+    if only { now.or(before) } else { before.or(now) }
 }
 
 // With one child more, whose verdict is v, and which has the effect e if it is a rule.
 pub fn take_in(a: Algorithm, k: Tally, e: Effect, v: Verdict) -> Tally
     ensures { result ≡ tallied a k e v }
 {
-    let acc = k.acc;
-    let cause = k.cause;
     Tally {
-        acc: crate::take_in(a, acc, e, meaning::decision_in(v)),
-        cause: note(meaning::is_only(a), cause, meaning::cause_in(v)),
+        acc: crate::take_in(a, k.acc, e, meaning::decision_in(v)),
+        cause: note(meaning::is_only(a), k.cause, meaning::cause_in(v)),
     }
 }
 
@@ -47,7 +42,5 @@ pub fn take_in(a: Algorithm, k: Tally, e: Effect, v: Verdict) -> Tally
 pub fn verdict(a: Algorithm, k: Tally) -> Verdict
     ensures { result ≡ verdict_so_far a k }
 {
-    let acc = k.acc;
-    let cause = k.cause;
-    meaning::coded(crate::outcome(a, acc), cause)
+    meaning::coded(crate::outcome(a, k.acc), k.cause)
 }

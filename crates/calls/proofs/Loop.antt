@@ -4,7 +4,7 @@ use mathlib.Core.Path.{◌≡◌, refl, sym, ap, ◌∙◌}
 use mathlib.Core.Bool.{Bool, true, false}
 use mathlib.Core.List.{List, [], ◌∷◌, ◌++◌, append_assoc}
 use lib.Dec.{ltb}
-use lib.ListN.{length, take, drop, replicate, length-append, length-drop}
+use lib.ListN.{length, get_or, take, drop, replicate, length-append, length-drop}
 use lib.Seq.{take_at, drop_at}
 use native.Mathlib.Omega.{arith}
 use borrow.Author.Tests.{le-ltb}
@@ -13,7 +13,7 @@ use Rattle.meaning.specs.Meaning.{decides, obliges}
 use Rattle.meaning.specs.Reading.{book_of, bags_of}
 use Rattle.meaning.specs.declared.Verdict.{Verdict}
 use Rattle.layout.specs.declared.State.{State}
-use Rattle.programme.specs.Step.{fresh_of}
+use Rattle.programme.specs.Step.{fresh_of, state_of}
 use Rattle.run.specs.Tick.{Ticked}
 use Rattle.run.specs.declared.kinds.Answer.{Answer}
 use Rattle.run.specs.declared.kinds.Answer.TheVariants.{Running, Finished, Refused}
@@ -25,12 +25,17 @@ use Rattle.translator.specs.Translate.{programme_of, translate_of}
 use Rattle.demand.specs.Demand.{Turn, ticked, after_turns, dealt_out, running, finished, answer_at}
 use Rattle.demand.proofs.Demand.{runs_right}
 use Rattle.rig.specs.Rig.{Call, put, numbers_of, state_in, over, fresh_call, tick_in, tick_call, answered, running_number, finished_number}
-use Rattle.rig.proofs.Laws as laws
 use Rattle.calls.specs.Loop.{HoldsState, Translates, ticks, next, row, Holds, RowsAreTicks, EveryRow}
 use Rattle.layout.specs.Room.{room_p}
 
 over_length : (xs l : List ℕ) → length xs ≤ length l → length (over xs l) ≡ length l
 over_length xs l h = omega (arith, h, length-append xs (drop (length xs) l), length-drop (length xs) l)
+
+-- the state that numbers and places hold, where they are enough
+held : (ns ps : List ℕ) {fs ls hs : List ℕ} → 33 ≤ length ns → room_p ≤ length ps → fs ≡ take 17 (drop 1 ns) → ls ≡ take 15 (drop 18 ns) → hs ≡ take room_p ps
+    → state_of (get_or ns 0 0) fs ls hs ≡ state_in ns ps
+unfolding state_in
+held ns ps numbers places f l h = rw (le-ltb _ _ numbers, le-ltb _ _ places, f, l, h) refl
 
 module _ (s : State) (ns ps : List ℕ) (w : Sized s) (enough : 33 ≤ length ns) (room : room_p ≤ length ps) where
   abbrev rest : List ℕ
@@ -59,7 +64,7 @@ module _ (s : State) (ns ps : List ℕ) (w : Sized s) (enough : 33 ≤ length ns
 
   state_back : state_in (over (numbers_of s) ns) (over s.places ps) ≡ s
   state_back =
-      sym (laws.held (over (numbers_of s) ns) (over s.places ps) (rw numbers_long enough) (rw places_long room) frames_back levels_back places_back)
+      sym (held (over (numbers_of s) ns) (over s.places ps) (rw numbers_long enough) (rw places_long room) frames_back levels_back places_back)
 
   put_holds : (x : ℕ) → Holds (put x s ns ps) s
   put_holds x = record { numbers = rw numbers_long enough; places = rw places_long room; state = state_back }

@@ -1,4 +1,5 @@
 -- The claims of specs/Order.antt. Assumes nothing.
+use Rattle.std.specs.Prelude.{Err, Ok}
 use Prim.Native.Nat.{ℕ, ◌-◌, ◌*◌, ◌/◌, ◌%◌, ◌<◌}
 use mathlib.Core.Path.{◌≡◌, refl, sym, ap, ◌∙◌}
 use mathlib.Core.Bool.{Bool, true, false}
@@ -17,13 +18,9 @@ use Rattle.meaning.specs.declared.Decision.{Decision}
 use Rattle.meaning.specs.declared.Decision.TheVariants.{Permit, Deny, NotApplicable, Indeterminate}
 use Rattle.meaning.specs.declared.Verdict.{Verdict}
 use Rattle.meaning.specs.declared.Verdict.TheVariants as verdict
-use Rattle.judge.specs.Judge.{judge_of}
-use Rattle.judge.specs.Request.{judge_request_of}
-use Rattle.judge.specs.declared.Judged.TheVariants.{Accepted}
-use Rattle.judge.specs.declared.JudgedRequest.{JudgedRequest}
-use Rattle.judge.specs.declared.JudgedRequest.TheVariants as request
-use Rattle.decider.specs.Outcome.{duties_of, in_order, outcome_of}
-use Rattle.decider.specs.declared.Outcome.TheVariants.{Decided, Refused}
+use Rattle.judge.specs.Judge.{judge_of, accepted_with}
+use Rattle.judge.specs.Request.{judge_request_of, JudgedRequest}
+use Rattle.decider.specs.Outcome.{duties_of, in_order, outcome_of, decided_with}
 use Rattle.order.specs.Stays.{decision}
 use Rattle.order.specs.Books.{RearrangedBook}
 use Rattle.order.proofs.Reordered.{as_many}
@@ -120,18 +117,18 @@ numbers_kept b c q out buffer numbers places a r =
     )
 
 -- a refusal of an accepted book's call looks at no answer
-refused_by : (j : JudgedRequest) (n o room : ℕ) (v w : Verdict) (x y : ℕ) (r : Refusal) → in_order (Accepted n o) j room (Decided v x) ≡ Refused r
-    → in_order (Accepted n o) j room (Decided w y) ≡ Refused r
-refused_by (request.Refused s) n o room v w x y r e = e
-refused_by (request.Accepted m) n o room v w x y r e = go (ltb room o) e
+refused_by : (j : JudgedRequest) (n o room : ℕ) (v w : Verdict) (x y : ℕ) (r : Refusal) → in_order (accepted_with n o) j room (decided_with v x) ≡ Err r
+    → in_order (accepted_with n o) j room (decided_with w y) ≡ Err r
+refused_by (Err s) n o room v w x y r e = e
+refused_by (Ok m) n o room v w x y r e = go (ltb room o) e
   where
-    go : (short : Bool) → if short (Refused no_room) (Decided v x) ≡ Refused r → if short (Refused no_room) (Decided w y) ≡ Refused r
+    go : (short : Bool) → if short (Err no_room) (decided_with v x) ≡ Err r → if short (Err no_room) (decided_with w y) ≡ Err r
     go true e = e
     go false e = let z : ◌≡◌ {A = ℕ} 0 1 = cc in absurd (omega arith)
 
 pub refused_alike : RefusedAlike
 unfolding host_outcome host_out outcome_of
 refused_alike may b c q out n o r accepted w e =
-    let z : judge_of c ≡ Accepted n o = rearranged_is_accepted may b c n o w accepted in
+    let z : judge_of c ≡ accepted_with n o = rearranged_is_accepted may b c n o w accepted in
     let y = refused_by (judge_request_of q) n o (length out / 2) _ (decides (bags_of q) (book_of c)) _ (length (duties_of c q)) r (rw accepted at e) in
     rw (e, z, y) (refl, refl)

@@ -1,14 +1,16 @@
 -- The claims of specs/Salvages.antt. Assumes nothing.
+use Rattle.std.specs.Prelude.{Err, Ok}
 use Prim.Native.Nat.{ℕ, ◌+◌, ◌*◌, ◌/◌, ◌%◌, ◌<◌}
 use mathlib.Core.Path.{◌≡◌, refl, ap, ◌∙◌}
 use lib.ListN.{length}
 use native.Mathlib.Omega.{arith}
-use Rattle.record.specs.Refusals.{refusal, spoilt, refusal_number}
-use Rattle.mending.specs.Salvaged.{leaves, mended_out, replaced_out}
-use Rattle.mending.specs.Caller.{Within}
-use Rattle.mending.specs.declared.Salvaged.{Salvaged}
-use Rattle.mending.specs.declared.Salvaged.TheVariants.{Mended, Refused}
-use Rattle.mending.proofs.Caller.{salvaged_is_accepted, spoils_is_told, told_spoils, answers_within}
+use Rattle.record.specs.Bytes.{size}
+use Rattle.record.specs.Refusals.{spoilt, refusal_number}
+use Rattle.placement.specs.Keeps.{Sized}
+use Rattle.mending.specs.Claims.{Spoils}
+use Rattle.mending.proofs.Exactly.{spoilt_spoils}
+use Rattle.mending.specs.Salvaged.{leaves, mended_out, replaced_out, Salvaged, mended_with}
+use Rattle.mending.proofs.Caller.{Told, told_other, told_line, told_mended, told, salvaged_is_accepted, spoils_is_told, answers_within}
 use Rattle.mender.specs.Mender.{salvaged_number}
 use Rattle.calls.specs.Salvages.{answered, SalvagedDecides, SpoiltIsTold, ToldIsSpoilt}
 use Rattle.calls.proofs.Decides.{decides_right}
@@ -28,14 +30,16 @@ unfolding mended_out replaced_out leaves
 spoilt_is_told b n line sized s out replaced = rw (spoils_is_told b n line sized s (length out) (length replaced)) (refl, refl, refl)
 
 -- a number tells which refusal it was
-told_by : (line : ℕ) (a : Salvaged) → Within a → line < 65536 → salvaged_number a ≡ refusal_number (spoilt line) → a ≡ Refused (spoilt line)
-told_by line (Mended n m) w l e = absurd (omega (arith, e))
-told_by line (Refused r) w l e =
-    let z : r.part ≡ 1 = omega (arith, w.0, w.2, e) in
-    let y : r.line ≡ line = omega (arith, w.0, e, z) in
-    let x : r.number ≡ 13 = omega (arith, e, z, y) in
-    ap Refused (ap (λ (k : ℕ). refusal k r.part r.line) x ∙ ap (λ (k : ℕ). refusal 13 k r.line) z ∙ ap (λ (k : ℕ). refusal 13 1 k) y)
-
 pub told_is_spoilt : ToldIsSpoilt
-told_is_spoilt b out replaced line l e =
-    told_spoils b line (length out) (length replaced) (told_by line (answered b out replaced) (answers_within b (length out) (length replaced)) l e)
+told_is_spoilt b out replaced line l h = go (told b (length out) (length replaced))
+  where
+    a : Salvaged
+    a = answered b out replaced
+
+    by_line : (k : ℕ) → a ≡ Err (spoilt k) → k ≡ line
+    by_line k e = omega (arith, ap salvaged_number e, h)
+
+    go : Told b (length b / size) a → Sized b (length b / size) × Spoils b (length b / size) line
+    go (told_other r e n p z) = absurd (omega (arith, n, p, z, l, ap salvaged_number e, h))
+    go (told_line k e sized s) = (sized, rw (by_line k e) at (spoilt_spoils b (length b / size) k s))
+    go (told_mended x xs e sized s) = absurd (omega (arith, ap salvaged_number e, h))

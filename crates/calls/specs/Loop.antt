@@ -1,15 +1,13 @@
 -- Demand 3 as the C caller sees it: a state goes out into lent numbers and places and comes back from them, and a row of calls, each with a budget and an
 -- output of its own, gives the decision, its code and the obligations. `proofs/Loop.antt` proves it. Assumes nothing.
-use Rattle.std.specs.Prelude.{ℕ, ◌+◌, ◌-◌, ◌/◌, ◌≤◌, ◌<◌, ◌≡◌, List, [], ◌∷◌, ◌++◌, ltb, length, take, replicate}
+use Rattle.std.specs.Prelude.{ℕ, ◌+◌, ◌-◌, ◌/◌, ◌≤◌, ◌<◌, ◌≡◌, List, [], ◌∷◌, ◌++◌, ltb, length, take, replicate, Ok}
 use Rattle.record.specs.Bytes.{Bytes}
 use Rattle.record.specs.Choose.{if}
 use Rattle.meaning.specs.Meaning.{decides, obliges}
 use Rattle.meaning.specs.Reading.{book_of, bags_of}
 use Rattle.meaning.specs.declared.Verdict.{Verdict}
-use Rattle.judge.specs.Judge.{judge_of}
+use Rattle.judge.specs.Judge.{judge_of, accepted_with}
 use Rattle.judge.specs.Request.{judge_request_of}
-use Rattle.judge.specs.declared.Judged.TheVariants as book
-use Rattle.judge.specs.declared.JudgedRequest.TheVariants as request
 use Rattle.layout.specs.declared.State.{State}
 use Rattle.programme.specs.Step.{fresh_of}
 use Rattle.run.specs.Tick.{Ticked}
@@ -30,7 +28,7 @@ abbrev pub programme_in : List ℕ → List ℕ → List ℕ
 programme_in b buffer = take (translated_number (translate_of b (length buffer)) / 256) (leaves (translate_of b (length buffer)) b buffer)
 
 abbrev pub Translates : Type 0
-Translates = (b buffer : List ℕ) (n o : ℕ) → judge_of b ≡ book.Accepted n o → room_for n ≤ length buffer → programme_in b buffer ≡ programme_of b
+Translates = (b buffer : List ℕ) (n o : ℕ) → judge_of b ≡ accepted_with n o → room_for n ≤ length buffer → programme_in b buffer ≡ programme_of b
 
 -- a call with the numbers and places that the one before left, and what it leaves in its own output
 abbrev pub ticks : List ℕ → List ℕ → Call → Turn → Ticked
@@ -72,7 +70,7 @@ pub record Answers (p q : List ℕ) (c : Call) (d : Verdict) (os : List ℕ) : T
 -- for every accepted book and request, and all lent buffers with room: with the programme as translating left it, from the fresh state
 abbrev pub EveryRow : Type 0
 EveryRow =
-    (b q : List ℕ) (n o m : ℕ) → Bytes b → judge_of b ≡ book.Accepted n o → judge_request_of q ≡ request.Accepted m
+    (b q : List ℕ) (n o m : ℕ) → Bytes b → judge_of b ≡ accepted_with n o → judge_request_of q ≡ Ok m
     → (buffer numbers places : List ℕ) → room_for n ≤ length buffer → 33 ≤ length numbers → room_p ≤ length places
     → ((fresh_call numbers places).number ≡ 0)
     × Answers (programme_in b buffer) q (fresh_call numbers places) (decides (bags_of q) (book_of b)) (obliges (bags_of q) (book_of b))

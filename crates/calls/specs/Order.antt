@@ -1,6 +1,6 @@
 -- Document 02, 7, as the C caller sees it: an accepted book whose lines were rearranged, asked by `bachumoi_decide`, and its programme run to the end. Codes are left
 -- aside. `proofs/Order.antt` proves it. Assumes nothing.
-use Rattle.std.specs.Prelude.{ℕ, ◌-◌, ◌*◌, ◌%◌, ◌≤◌, ◌≡◌, Bool, List, ◌++◌, length, replicate}
+use Rattle.std.specs.Prelude.{ℕ, ◌-◌, ◌*◌, ◌%◌, ◌≤◌, ◌≡◌, Bool, List, ◌++◌, length, replicate, Err, Ok}
 use Rattle.record.specs.Bytes.{Bytes}
 use Rattle.record.specs.declared.Refusal.{Refusal}
 use Rattle.meaning.specs.Policy.{Tree}
@@ -9,13 +9,10 @@ use Rattle.meaning.specs.Reading.{book_of, bags_of}
 use Rattle.meaning.specs.declared.Decision.{Decision}
 use Rattle.meaning.specs.declared.Decision.TheVariants.{Indeterminate}
 use Rattle.meaning.specs.declared.Verdict.{Verdict}
-use Rattle.judge.specs.Judge.{judge_of}
+use Rattle.judge.specs.Judge.{judge_of, accepted_with}
 use Rattle.judge.specs.Request.{judge_request_of}
-use Rattle.judge.specs.declared.Judged.TheVariants as book
-use Rattle.judge.specs.declared.JudgedRequest.TheVariants as request
 use Rattle.layout.specs.Room.{room_p}
 use Rattle.translator.specs.Translate.{room_for}
-use Rattle.decider.specs.declared.Outcome.TheVariants.{Refused}
 use Rattle.order.specs.Reordered.{Reordered}
 use Rattle.order.specs.Stays.{decision, keeps_decision, keeps_answer, keeps_numbers}
 use Rattle.order.specs.Books.{RearrangedBook}
@@ -30,8 +27,8 @@ pub record Asked (b q out buffer numbers places : List ℕ) : Type 0 where
   pub records : ℕ
   pub obligations : ℕ
   pub entries : ℕ
-  pub book : judge_of b ≡ book.Accepted records obligations
-  pub request : judge_request_of q ≡ request.Accepted entries
+  pub book : judge_of b ≡ accepted_with records obligations
+  pub request : judge_request_of q ≡ Ok entries
   pub out_room : 2 * obligations ≤ length out
   pub buffer_room : room_for records ≤ length buffer
   pub numbers_room : 33 ≤ length numbers
@@ -85,5 +82,5 @@ NumbersKept =
 -- a request or an output that one is refused for, the other is refused for too, with the same number, and the output stays as it was
 abbrev pub RefusedAlike : Type 0
 RefusedAlike =
-    (may : Tree → Bool) (b c q out : List ℕ) (n o : ℕ) (r : Refusal) → judge_of b ≡ book.Accepted n o → RearrangedBook may b c → host_outcome b q out ≡ Refused r
+    (may : Tree → Bool) (b c q out : List ℕ) (n o : ℕ) (r : Refusal) → judge_of b ≡ accepted_with n o → RearrangedBook may b c → host_outcome b q out ≡ Err r
     → (host_number (host_outcome c q out) ≡ host_number (host_outcome b q out)) × (host_out c q out ≡ out)

@@ -1,7 +1,7 @@
 -- Refusals of a book as the C caller sees them: `bachumoi_decide` and `bachumoi_translate` refuse it exactly when it breaks a rule, with the number and the line
 -- of that rule. `proofs/Refuses.antt` proves it. Assumes nothing.
-use Rattle.std.specs.Prelude.{ℕ, ◌<◌, ◌≡◌, List, length}
-use Rattle.record.specs.Refusals.{book, refusal_number}
+use Rattle.std.specs.Prelude.{ℕ, ◌+◌, ◌*◌, ◌<◌, ◌≡◌, List, length}
+use Rattle.record.specs.Refusals.{book, part_number, number_of, part_of, line_of, refusal_number}
 use Rattle.record.specs.declared.Refusal.{Refusal}
 use Rattle.judge.specs.Exactly.{Breaks}
 use Rattle.host.specs.Host.{host_number, host_outcome, host_out}
@@ -15,15 +15,21 @@ BrokenIsTold =
     → ((q out : List ℕ) → (host_number (host_outcome b q out) ≡ refusal_number r) × (host_out b q out ≡ out))
     × ((buffer : List ℕ) → (translated_number (translate_of b (length buffer)) ≡ refusal_number r) × (leaves (translate_of b (length buffer)) b buffer ≡ buffer))
 
--- a refusal of the book that a number can say
-pub record OfBook (r : Refusal) : Type 0 where
-  pub part : r.part ≡ book
-  pub number : r.number < 256
-  pub line : r.line < 65536
+-- what a number says of the book: a refusal's number and its line
+abbrev pub told : ℕ → ℕ → ℕ
+told number line = 255 + 256 * number + 65536 * line + 4294967296 * part_number book
+
+-- the book breaks a rule, and the refusal for it has this number and this line
+pub record BrokenAt (b : List ℕ) (number line : ℕ) : Type 0 where
+  pub refusal : Refusal
+  pub breaks : Breaks b refusal
+  pub part : part_of refusal ≡ book
+  pub number_is : number_of refusal ≡ number
+  pub line_is : line_of refusal ≡ line
 
 -- and it is said only where the book breaks that rule at that line
 abbrev pub ToldIsBroken : Type 0
 ToldIsBroken =
-    (b : List ℕ) (r : Refusal) → OfBook r
-    → ((q out : List ℕ) → host_number (host_outcome b q out) ≡ refusal_number r → Breaks b r)
-    × ((buffer : List ℕ) → translated_number (translate_of b (length buffer)) ≡ refusal_number r → Breaks b r)
+    (b : List ℕ) (number line : ℕ) → number < 256 → line < 65536
+    → ((q out : List ℕ) → host_number (host_outcome b q out) ≡ told number line → BrokenAt b number line)
+    × ((buffer : List ℕ) → translated_number (translate_of b (length buffer)) ≡ told number line → BrokenAt b number line)

@@ -1,18 +1,14 @@
 -- Document 02, 6, as the C caller sees it: what `bachumoi_salvage` leaves is decided by its meaning, and when it refuses with 13. `proofs/Salvages.antt` proves it.
 -- Assumes nothing.
-use Rattle.std.specs.Prelude.{ℕ, ◌*◌, ◌/◌, ◌%◌, ◌≤◌, ◌<◌, ◌≡◌, List, length, take}
+use Rattle.std.specs.Prelude.{ℕ, ◌*◌, ◌/◌, ◌%◌, ◌≤◌, ◌<◌, ◌≡◌, List, length, take, Ok}
 use Rattle.record.specs.Bytes.{size}
 use Rattle.record.specs.Refusals.{spoilt, refusal_number}
 use Rattle.fields.specs.Fields.{obligations_of}
 use Rattle.placement.specs.Keeps.{Sized}
-use Rattle.judge.specs.Judge.{judge_of}
+use Rattle.judge.specs.Judge.{judge_of, accepted_with}
 use Rattle.judge.specs.Request.{judge_request_of}
-use Rattle.judge.specs.declared.Judged.TheVariants as book
-use Rattle.judge.specs.declared.JudgedRequest.TheVariants as request
 use Rattle.mending.specs.Claims.{Spoils}
-use Rattle.mending.specs.Salvaged.{answer_of, mended_out, replaced_out}
-use Rattle.mending.specs.declared.Salvaged.{Salvaged}
-use Rattle.mending.specs.declared.Salvaged.TheVariants.{Mended}
+use Rattle.mending.specs.Salvaged.{answer_of, mended_out, replaced_out, Salvaged, mended_with}
 use Rattle.mender.specs.Mender.{salvaged_number}
 use Rattle.calls.specs.Decides.{ByMeaning}
 
@@ -26,10 +22,10 @@ mended_in b out replaced = take (salvaged_number (answered b out replaced) / 256
 -- demand 2 reads the salvaged book: it is accepted, and `bachumoi_decide` decides it by the meaning for every accepted request
 abbrev pub SalvagedDecides : Type 0
 SalvagedDecides =
-    (b out replaced : List ℕ) (n m : ℕ) → answered b out replaced ≡ Mended n m
+    (b out replaced : List ℕ) (n m : ℕ) → answered b out replaced ≡ mended_with n m
     → let c = mended_in b out replaced in
-    (judge_of c ≡ book.Accepted n (obligations_of c n))
-    × ((q places : List ℕ) (k : ℕ) → judge_request_of q ≡ request.Accepted k → 2 * obligations_of c n ≤ length places → ByMeaning c q places)
+    (judge_of c ≡ accepted_with n (obligations_of c n))
+    × ((q places : List ℕ) (k : ℕ) → judge_request_of q ≡ Ok k → 2 * obligations_of c n ≤ length places → ByMeaning c q places)
 
 -- where a line spoils a book of the right size the number is 13 with that line, whatever is lent beside it, and what is lent stays as it was
 abbrev pub SpoiltIsTold : Type 0

@@ -1,8 +1,10 @@
 -- Values of conditions: the code of a value puts its worth on the levels, or notes that it is lost, and leaves all else as it was. Assumes nothing.
+use Rattle.std.specs.Prelude.{Err, Ok}
 use Prim.Native.Nat.{ℕ, suc, ◌+◌, ◌≤◌, ◌<◌}
 use mathlib.Core.Path.{◌≡◌, refl}
 use mathlib.Core.Bool.{Bool, true}
 use mathlib.Core.List.{List, [], ◌∷◌, ◌++◌, append_assoc}
+use Rattle.sums.specs.Worth.{Worth}
 use lib.ListN.{length}
 use lib.Dec.{ltb}
 use borrow.Author.Tests.{lt-ltb}
@@ -11,8 +13,6 @@ use Rattle.record.specs.Choose.{if}
 use Rattle.value.specs.Value.{value_of}
 use Rattle.value.specs.declared.Function.{Function}
 use Rattle.sums.specs.declared.Operator.{Operator}
-use Rattle.sums.specs.declared.Worth.{Worth}
-use Rattle.sums.specs.declared.Worth.TheVariants.{Is, Lost}
 use Rattle.meaning.specs.Numbers.{key_by}
 use Rattle.meaning.specs.Policy.{Expr, literal, attribute, operate}
 use Rattle.meaning.specs.Meaning.{Bags, the_only, operated, worth, weighed}
@@ -36,19 +36,19 @@ holding w es fs ls r o t ps ds = at es fs (word_of w ∷ ls) r (mark_of w) o t p
 -- an operator finds what its operands left: first with mark a, second since then
 operates : (a : Truth) (o : Operator) (x y : Worth)
     → since (mark_of (since (mark_of (since a x)) y)) (worked o (word_of (since a x)) (word_of (since (mark_of (since a x)) y))) ≡ since a (operated o x y)
-operates True o (Is x) (Is y) = refl
-operates True o (Is x) (Lost s) = refl
-operates True o (Lost s) y = refl
-operates False o (Is x) (Is y) = refl
-operates False o (Is x) (Lost s) = refl
-operates False o (Lost s) y = refl
+operates True o (Ok x) (Ok y) = refl
+operates True o (Ok x) (Err s) = refl
+operates True o (Err s) y = refl
+operates False o (Ok x) (Ok y) = refl
+operates False o (Ok x) (Err s) = refl
+operates False o (Err s) y = refl
 operates (Unknown s) o x y = refl
 
 weighing : (f : Function) (k : ℕ) (x y : Worth)
     → tested (mark_of (since (mark_of x) y)) f k (word_of x) (word_of (since (mark_of x) y)) ≡ weighed f k x y
-weighing f k (Is x) (Is y) = refl
-weighing f k (Is x) (Lost s) = refl
-weighing f k (Lost s) y = refl
+weighing f k (Ok x) (Ok y) = refl
+weighing f k (Ok x) (Err s) = refl
+weighing f k (Err s) y = refl
 
 module _ (g : Bags) (fs : List Frame) (r : Verdict) (o t : Truth) (ps ds : List ℕ) where
   -- there is room for one more
@@ -63,7 +63,7 @@ module _ (g : Bags) (fs : List Frame) (r : Verdict) (o t : Truth) (ps ds : List 
   pub sim_expr : (e : Expr) (a : Truth) (post : List Entry) (ls : List ℕ) → nest_expr e + length ls ≤ room_l
       → Goes g (at (code_expr e ++ post) fs ls r a o t ps ds) (holding (since a (worth g e)) post fs ls r o t ps ds)
   unfolding code_expr worth nest_expr step core
-  sim_expr (literal k n) a post ls d = move (pushed (since a (Is (value_of k n))) post ls (omega (arith, d)))
+  sim_expr (literal k n) a post ls d = move (pushed (since a (Ok (value_of k n))) post ls (omega (arith, d)))
   sim_expr (attribute key) a post ls d = move (pushed (since a (the_only (g (key_by key)))) post ls (omega (arith, d)))
   sim_expr (operate p x y) a post ls d =
       rw (append_assoc (code_expr x) (code_expr y ++ (sum (works p) ∷ [])) post, append_assoc (code_expr y) (sum (works p) ∷ []) post)

@@ -1,4 +1,5 @@
 -- The printed line, found first in the output. Assumes nothing.
+use Rattle.std.specs.Prelude.{Err, Ok}
 use mathlib.Core.Path.{◌≡◌, sym, ap, ◌∙◌}
 use mathlib.Core.List.{List}
 use Prim.Native.Nat.{ℕ, ◌≤◌, ◌*◌}
@@ -7,18 +8,14 @@ use lib.ListN.{length, take, length-take}
 use Rattle.record.specs.Bytes.{size, most_records, most_entries}
 use Rattle.record.specs.declared.Refusal.{Refusal}
 use Rattle.record.specs.Table.{tab}
-use Rattle.text.specs.Text.{book, request, read_of, byte_at, output_after}
-use Rattle.text.specs.declared.Filled.{Filled}
-use Rattle.text.specs.declared.Filled.TheVariants as read
+use Rattle.text.specs.Text.{book, request, read_of, byte_at, output_after, Filled}
 use Rattle.text.proofs.Accepted.{filled_first}
 use Rattle.line.specs.Line.{decision_line, refusal_line, places_of, put, longest}
 use Rattle.line.proofs.Laws.{length_refusal, length_decision, put_found, places_fits}
 use Rattle.meaning.specs.Meaning.{decision_in}
 use Rattle.meaning.specs.Numbers.{number_of}
 use Rattle.meaning.specs.declared.Verdict.{Verdict}
-use Rattle.decider.specs.Outcome.{duties_of, outcome_of, out_of}
-use Rattle.decider.specs.declared.Outcome.{Outcome}
-use Rattle.decider.specs.declared.Outcome.TheVariants.{Decided, Refused}
+use Rattle.decider.specs.Outcome.{duties_of, outcome_of, out_of, Outcome, decided_with}
 use Rattle.decider.proofs.Whole.{decided_puts}
 use Rattle.decide.specs.Decide.{outcome_line, decided_line, after_request, after_book, printed}
 
@@ -42,10 +39,10 @@ module _ (b q places : List ℕ) {a : Outcome} {after : List ℕ}
   unfolding decided_line
   line_is e = ap (λ (x : Outcome). outcome_line x (duties_of b q)) (ap (outcome_of b q) (sym room) ∙ sym outcome ∙ e)
 
-  pub decided_refused : (r : Refusal) → a ≡ Refused r → refusal_line r ≡ decided_line b q
+  pub decided_refused : (r : Refusal) → a ≡ Err r → refusal_line r ≡ decided_line b q
   decided_refused r e = sym (line_is e)
 
-  pub decided_stands : (d : Verdict) (n : ℕ) (l : List ℕ) {x m : ℕ} {later : List ℕ} → a ≡ Decided d n → x ≡ number_of (decision_in d) → length after ≡ length places → longest ≤ length l
+  pub decided_stands : (d : Verdict) (n : ℕ) (l : List ℕ) {x m : ℕ} {later : List ℕ} → a ≡ decided_with d n → x ≡ number_of (decision_in d) → length after ≡ length places → longest ≤ length l
       → m ≡ places_of (decision_line x (take n after)) (length l) → later ≡ put (decision_line x (take n after)) l → Stands (decided_line b q) later m
   decided_stands d n l {x} {m} {later} e number kept h p w =
       let puts = decided_puts b q places outcome e left kept in
@@ -59,20 +56,20 @@ module _ (text asked records entries : List ℕ) {a : Filled} (long : length rec
   unfolding printed
   after_book_lem e = ap (λ (x : Filled). after_book x text asked) (ap (read_of book text) (sym long) ∙ sym book-read ∙ e)
 
-  pub printed_book : (r : Refusal) → a ≡ read.Refused r → refusal_line r ≡ printed text asked
+  pub printed_book : (r : Refusal) → a ≡ Err r → refusal_line r ≡ printed text asked
   unfolding after_book
   printed_book r e = sym (after_book_lem e)
 
-  module _ (n : ℕ) {d : Filled} {later : List ℕ} (book_is : a ≡ read.Places n) (book-left : later ≡ output_after (byte_at text) a records)
+  module _ (n : ℕ) {d : Filled} {later : List ℕ} (book_is : a ≡ Ok n) (book-left : later ≡ output_after (byte_at text) a records)
       (short : length entries ≡ (size * most_entries)) (request-read : d ≡ read_of request asked (length entries)) where
     after_request_lem : {x : Filled} → d ≡ x → printed text asked ≡ after_request x (tab (byte_at text) n) asked
     unfolding after_book
     after_request_lem e = after_book_lem book_is ∙ ap (λ (x : Filled). after_request x (tab (byte_at text) n) asked) (ap (read_of request asked) (sym short) ∙ sym request-read ∙ e)
 
-    pub printed_request : (r : Refusal) → d ≡ read.Refused r → refusal_line r ≡ printed text asked
+    pub printed_request : (r : Refusal) → d ≡ Err r → refusal_line r ≡ printed text asked
     unfolding after_request
     printed_request r e = sym (after_request_lem e)
 
-    pub printed_decided : (m : ℕ) {last : List ℕ} → d ≡ read.Places m → last ≡ output_after (byte_at asked) d entries → decided_line (take n later) (take m last) ≡ printed text asked
+    pub printed_decided : (m : ℕ) {last : List ℕ} → d ≡ Ok m → last ≡ output_after (byte_at asked) d entries → decided_line (take n later) (take m last) ≡ printed text asked
     unfolding after_request
     printed_decided m e left = rw (filled_first (byte_at text) records n book-left book_is, filled_first (byte_at asked) entries m left e) (sym (after_request_lem e))

@@ -4,29 +4,31 @@
 ghost use Rattle.std.specs.Prelude.{◌≡◌, ◌≤◌, ◌*◌, length, take};
 ghost use Rattle.record.specs.Bytes.{size, most_records, most_entries};
 ghost use Rattle.line.specs.Line.{longest};
-ghost use Rattle.decide.specs.Decide.{decided_line, printed};
+ghost use Rattle.decide.specs.Decide.{printed, Put};
 
-use decider::Outcome;
+use record::Refusal;
 use std::io;
-use text::Filled;
 
-// Puts the line of what the records decide first into `out`, and answers its length. `places` is for the work.
-fn outcome_line(book: &[u8], request: &[u8], places: &mut [u16], out: &mut [u8]) -> usize
-    requires { (length places.old ≡ most_records) × (longest ≤ length out.old) }
-    ensures { (result ≤ length out.new) × (take result out.new ≡ decided_line book.now request.now) }
+// Puts the line of what the two texts decide first into `out`, and answers its length. `records`, `entries` and `places` are for the work.
+fn put_ruling(
+    book: &[u8],
+    request: &[u8],
+    records: &mut [u8],
+    entries: &mut [u8],
+    places: &mut [u16],
+    out: &mut [u8],
+) -> Result<usize, Refusal>
+    requires { (length records.old ≡ size * most_records) × (length entries.old ≡ size * most_entries) × (length places.old ≡ most_records) × (longest ≤ length out.old) }
+    ensures { Put (printed book.now request.now) out.old out.new result }
 {
-    match decider::decide(book, request, places) {
-        Outcome::Decided(verdict, count) => line::decision_line(
-            meaning::number(meaning::decision_in(verdict)),
-            places,
-            count,
-            out,
-        ),
-        Outcome::Refused(refusal) => line::refusal_line(refusal, out),
-    }
+    let n = text::read_book(book, records)?;
+    let m = text::read_request(request, entries)?;
+    let ruling = decider::decide(&records[..n], &entries[..m], places)?;
+    let number = meaning::number(meaning::decision_in(ruling.verdict));
+    Ok(line::decision_line(number, places, ruling.count, out))
 }
 
-// Puts what is to be printed of the two texts first into `out`, and answers its length. `records`, `entries` and `places` are for the work.
+// The same, or the line of the refusal.
 fn decided(
     book: &[u8],
     request: &[u8],
@@ -38,12 +40,9 @@ fn decided(
     requires { (length records.old ≡ size * most_records) × (length entries.old ≡ size * most_entries) × (length places.old ≡ most_records) × (longest ≤ length out.old) }
     ensures { (result ≤ length out.new) × (take result out.new ≡ printed book.now request.now) }
 {
-    match text::read_book(book, records) {
-        Filled::Places(n) => match text::read_request(request, entries) {
-            Filled::Places(m) => outcome_line(&records[..n], &entries[..m], places, out),
-            Filled::Refused(refusal) => line::refusal_line(refusal, out),
-        },
-        Filled::Refused(refusal) => line::refusal_line(refusal, out),
+    match put_ruling(book, request, records, entries, places, out) {
+        Ok(n) => n,
+        Err(refusal) => line::refusal_line(refusal, out),
     }
 }
 

@@ -1,11 +1,11 @@
 -- What a parent sees of the record i with the span s, by its kind; and only-one-applicable. Assumes nothing.
+use Rattle.std.specs.Prelude.{None}
 use mathlib.Core.Path.{◌≡◌, refl, sym, ap, ◌∙◌}
 use mathlib.Core.Bool.{Bool, true, false}
 use mathlib.Core.List.{List, [], ◌∷◌, ◌++◌, append-nil}
-use Prim.Native.Nat.{ℕ, ◌+◌, ◌-◌, ◌≤◌, ◌<◌}
+use Prim.Native.Nat.{ℕ, ◌+◌, ◌-◌}
 use Rattle.record.specs.Choose.{if, either}
-use Rattle.record.specs.Forest.{forest, span_in}
-use Rattle.record.proofs.Forests.{forest_none, forest_more}
+use Rattle.record.specs.Forest.{Forest, none, node, forest}
 use Rattle.meaning.specs.Logic.{is_true, is_unknown, some, or_else}
 use Rattle.meaning.specs.Policy.{Target, Rule, Obligation, OverRules, OverPolicies, Tree, policy, set, Trees}
 use Rattle.meaning.specs.Meaning.{Bags, target_of, decision_of, coded, decision_in, cause_in, Child, is, unsure, keep, applying, combine, stops, met, walked, hands, handed, own_of, binding, verdict_of, node_of, over_rules, over_policies, rule_of, rule_child, rule_children, child_of, children_of}
@@ -16,7 +16,6 @@ use Rattle.meaning.specs.declared.Effect.{Effect}
 use Rattle.meaning.specs.declared.Effect.TheVariants.{Permits, Denies}
 use Rattle.meaning.specs.declared.Decision.{Decision}
 use Rattle.meaning.specs.declared.Decision.TheVariants.{Permit, Deny, NotApplicable, Indeterminate}
-use Rattle.meaning.specs.declared.Cause.TheVariants.{NoCause}
 use Rattle.meaning.specs.declared.Verdict.{Verdict}
 use Rattle.meaning.specs.declared.Verdict.TheVariants as verdict
 use Rattle.meaning.specs.declared.Algorithm.{Algorithm}
@@ -26,7 +25,7 @@ use Rattle.decider.specs.Inside.{tree_from, child_at, children_in, up_of, up_in,
 use Rattle.decider.proofs.Kept.{bind_none}
 
 -- a verdict is its decision with its cause
-coded_again : (v : Verdict) → coded (decision_in v) (or_else (cause_in v) NoCause) ≡ v
+coded_again : (v : Verdict) → coded (decision_in v) (or_else (cause_in v) None) ≡ v
 coded_again verdict.Permit = refl
 coded_again verdict.Deny = refl
 coded_again verdict.NotApplicable = refl
@@ -133,19 +132,27 @@ module _ (b : List ℕ) (g : Bags) (i s : ℕ) where
   unfolding child_at tree_from tree_at up_at child_of node_of up_in
   policy_is e = (rw e, rw e)
 
--- the children that stand among `left` records from i on
-pub children_none : (b : List ℕ) (g : Bags) (i left : ℕ) → left ≤ 0 → children_in b g i left ≡ []
-unfolding children_in trees_in children_of
-children_none b g i left h = rw (forest_none b i left h)
+-- the children that stand in a forest
+unfoldable pub children_on : List ℕ → Bags → Forest → List Child
+children_on b g f = children_of g (trees_in b f)
 
-module _ (b : List ℕ) (g : Bags) (i left : ℕ) {s : ℕ} (h : 0 < left) (e : s ≡ span_in b i left) where
-  pub children_skip : is_party b i ≡ false → children_in b g i left ≡ children_in b g (i + s) (left - s)
-  unfolding children_in trees_in
-  children_skip q = rw (forest_more b i left h e, q)
+pub children_all : (b : List ℕ) (g : Bags) (from count : ℕ) → children_on b g (forest b from count) ≡ children_in b g from count
+unfolding children_on children_in
+children_all b g from count = refl
 
-  pub children_more : is_party b i ≡ true → children_in b g i left ≡ child_at b g i s ∷ children_in b g (i + s) (left - s)
-  unfolding children_in trees_in children_of child_at tree_from
-  children_more q = rw (forest_more b i left h e, q)
+pub children_none : (b : List ℕ) (g : Bags) {f : Forest} → f ≡ none → children_on b g f ≡ []
+unfolding children_on trees_in children_of
+children_none b g e = rw e
+
+pub children_skip : (b : List ℕ) (g : Bags) {i : ℕ} {f kids rest : Forest} → f ≡ node i kids rest → false ≡ is_party b i
+    → children_on b g f ≡ children_on b g rest
+unfolding children_on trees_in
+children_skip b g e q = rw (e, ← q)
+
+pub children_more : (b : List ℕ) (g : Bags) {i : ℕ} (s : ℕ) {f rest : Forest} → f ≡ node i (forest b (i + 1) (s - 1)) rest → true ≡ is_party b i
+    → children_on b g f ≡ child_at b g i s ∷ children_on b g rest
+unfolding children_on trees_in children_of child_at tree_from
+children_more b g s e q = rw (e, ← q)
 
 -- only-one: children that do not apply hand up nothing
 not_said : (x : Effect) (xs ys : List ℕ) → if (is NotApplicable (decision_of x)) xs [] ++ ys ≡ ys
@@ -168,22 +175,22 @@ handed_applying x (c ∷ cs) = go c.target refl (handed_applying x cs)
     go (Unknown u) e ih = rw (e, not_sure x [] (handed OnlyOne (decision_of x) cs)) ih
 
 -- and beside the one child that applies no cause is met
-none_met : (cs : List Child) → some unsure cs ≡ false → applying cs ≡ [] → walked true cs ≡ NoCause
+none_met : (cs : List Child) → some unsure cs ≡ false → applying cs ≡ [] → walked true cs ≡ None
 none_met [] e f = refl
 none_met (c ∷ cs) e f = go c.target e f (none_met cs)
   where
-    go : (t : Truth) → either (is_unknown t) (some unsure cs) ≡ false → keep t c (applying cs) ≡ [] → (some unsure cs ≡ false → applying cs ≡ [] → walked true cs ≡ NoCause)
-        → met true t (walked true cs) ≡ NoCause
+    go : (t : Truth) → either (is_unknown t) (some unsure cs) ≡ false → keep t c (applying cs) ≡ [] → (some unsure cs ≡ false → applying cs ≡ [] → walked true cs ≡ None)
+        → met true t (walked true cs) ≡ None
     go True e f ih = cc
     go False e f ih = ih e f
     go (Unknown s) e f ih = cc
 
-one_met : (c : Child) (cs : List Child) → some unsure cs ≡ false → applying cs ≡ c ∷ [] → walked false cs ≡ NoCause
+one_met : (c : Child) (cs : List Child) → some unsure cs ≡ false → applying cs ≡ c ∷ [] → walked false cs ≡ None
 one_met c [] e f = refl
 one_met c (d ∷ cs) e f = go d.target e f (one_met c cs)
   where
-    go : (t : Truth) → either (is_unknown t) (some unsure cs) ≡ false → keep t d (applying cs) ≡ c ∷ [] → (some unsure cs ≡ false → applying cs ≡ c ∷ [] → walked false cs ≡ NoCause)
-        → met false t (walked (is_true t) cs) ≡ NoCause
+    go : (t : Truth) → either (is_unknown t) (some unsure cs) ≡ false → keep t d (applying cs) ≡ c ∷ [] → (some unsure cs ≡ false → applying cs ≡ c ∷ [] → walked false cs ≡ None)
+        → met false t (walked (is_true t) cs) ≡ None
     go True e f ih = let z : applying cs ≡ [] = cc in none_met cs e z
     go False e f ih = ih e f
     go (Unknown s) e f ih = cc

@@ -13,27 +13,28 @@ use Rattle.meaning.specs.Reading.{is_kind}
 use Rattle.decider.specs.Inside.{direct_of, room_of, deep_of}
 
 -- how a forest begins
-module _ (b : List ℕ) (i left : ℕ) {s : ℕ} (h : 0 < left) (e : s ≡ span_in b i left) where
-  pub direct_is : direct_of b (forest b i left) ≡ if (is_kind b i 8) 1 0 + direct_of b (forest b (i + s) (left - s))
+module _ (b : List ℕ) {i : ℕ} {f kids rest : Forest} (e : f ≡ node i kids rest) where
+  pub direct_is : direct_of b f ≡ if (is_kind b i 8) 1 0 + direct_of b rest
   unfolding direct_of
-  direct_is = rw (forest_more b i left h e)
+  direct_is = rw e
 
-  pub deep_is : deep_of b (forest b i left) ≡ room_of b (forest b (i + 1) (s - 1)) + deep_of b (forest b (i + s) (left - s))
+  pub deep_is : deep_of b f ≡ room_of b kids + deep_of b rest
   unfolding deep_of
-  deep_is = rw (forest_more b i left h e)
+  deep_is = rw e
 
-  room_is : room_of b (forest b i left) ≡ if (is_kind b i 8) 1 0 + room_of b (forest b (i + 1) (s - 1)) + room_of b (forest b (i + s) (left - s))
+  room_is : room_of b f ≡ if (is_kind b i 8) 1 0 + room_of b kids + room_of b rest
   unfolding room_of
-  room_is = rw (forest_more b i left h e)
+  room_is = rw e
 
-  nest_is : height (forest b i left) ≡ max (suc (height (forest b (i + 1) (s - 1)))) (height (forest b (i + s) (left - s)))
+module _ {i : ℕ} {f kids rest : Forest} (e : f ≡ node i kids rest) where
+  nest_is : height f ≡ max (suc (height kids)) (height rest)
   unfolding height
-  nest_is = rw (forest_more b i left h e)
+  nest_is = rw e
 
-  pub nest_kids : height (forest b (i + 1) (s - 1)) < height (forest b i left)
+  pub nest_kids : height kids < height f
   nest_kids = omega (arith, nest_is)
 
-  pub nest_rest : height (forest b (i + s) (left - s)) ≤ height (forest b i left)
+  pub nest_rest : height rest ≤ height f
   nest_rest = omega (arith, nest_is)
 
 -- what stands in a forest, and what stands below it
@@ -58,7 +59,7 @@ count_fuel (suc f) b i (suc l) h =
     let x : i + 1 + (s - 1) ≡ i + s = omega arith in
     let y : i + s + (suc l - s) ≡ i + suc l = omega arith in
     let z : obligations_of b (i + 1) ≡ obligations_of b i + if (is_kind b i 8) 1 0 = rw (add-one i) in
-    omega (arith, room_is b i (suc l) (omega arith) refl, z, rw x at (count_fuel f b (i + 1) (s - 1) (omega arith)), rw y at (count_fuel f b (i + s) (suc l - s) (omega arith)))
+    omega (arith, room_is b (forest_more b i (suc l) (omega arith) refl), z, rw x at (count_fuel f b (i + 1) (s - 1) (omega arith)), rw y at (count_fuel f b (i + s) (suc l - s) (omega arith)))
 
 pub count_forest : (b : List ℕ) (i left : ℕ) → obligations_of b i + room_of b (forest b i left) ≡ obligations_of b (i + left)
 count_forest b i left = count_fuel left b i left (omega arith)

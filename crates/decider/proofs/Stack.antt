@@ -5,10 +5,9 @@ use mathlib.Core.List.{List, [], ◌∷◌, ◌++◌, append-nil, append_assoc}
 use Prim.Native.Nat.{ℕ, ◌+◌, ◌-◌, ◌≤◌, ◌<◌}
 use native.Mathlib.Omega.{arith}
 use native.Mathlib.Numerals.{add-one}
-use lib.ListN.{length, take, drop, set, get_or, replicate, length-append, length-take, length-drop, take-append-drop}
-use lib.Seq.{take-take, take_at, drop_at, take-add, take-suc-set, length-take-le, get_or-drop, paste, drop-paste}
+use lib.ListN.{length, take, drop, set, replicate, length-append, length-take, length-drop, take-append-drop}
+use lib.Seq.{take-take, take_at, drop_at, take-add, take-suc-set, length-take-le, paste}
 use Rattle.record.specs.Choose.{if}
-use Rattle.record.proofs.Filling.{Filled, fill_more}
 use Rattle.decider.specs.Places.{Holds, Stacked, between}
 
 pub holds_none : (l : List ℕ) (n : ℕ) → Holds l n [] l n
@@ -76,22 +75,10 @@ length_between : (l : List ℕ) (m e : ℕ) → m ≤ e → e ≤ length l → l
 unfolding between
 length_between l m e h g = length-take-le (e - m) (drop m l) (omega (arith, length-drop m l))
 
--- the loop that moves
-pub shift_more : (l o : List ℕ) (at m k : ℕ) → at ≤ m → m + k < length l → Filled l at (drop m l) k o → Filled l at (drop m l) (k + 1) (set o (at + k) (get_or o (m + k) 0))
-shift_more l o at m k h g w =
-    let dl : length (drop m l) ≡ length l - m = length-drop m l in
-    let c : (at + k) + (m - at) ≡ m + k = omega arith in
-    let v : get_or (paste l at (drop m l) k) (m + k) 0 ≡ get_or (drop m l) k 0 =
-    ap (λ z. get_or (paste l at (drop m l) k) z 0) (sym c)
-    ∙ sym (get_or-drop (at + k) (paste l at (drop m l) k) (m - at) 0)
-    ∙ ap (λ z. get_or z (m - at) 0) (drop-paste l at (drop m l) k (omega arith) (omega arith))
-    ∙ get_or-drop (at + k) l (m - at) 0 ∙ ap (λ z. get_or l z 0) c ∙ sym (get_or-drop m l k 0) in
-    let x : get_or o (m + k) 0 ≡ get_or (drop m l) k 0 = rw w.holds v in
-    fill_more w refl (omega arith) (omega arith) (omega arith) x
-
-pub shift_done : (l o : List ℕ) (at m e k : ℕ) → m ≤ e → e ≤ length l → k ≡ e - m → Filled l at (drop m l) k o → Stacked l at (between m e l) o (at + (e - m))
+-- what is moved down
+pub shifted : (l : List ℕ) (at m e : ℕ) {o : List ℕ} → m ≤ e → e ≤ length l → o ≡ paste l at (drop m l) (e - m) → Stacked l at (between m e l) o (at + (e - m))
 unfolding between
-shift_done l o at m e k g j q w = record { places = w.holds ∙ ap (paste l at (drop m l)) q; count = omega (arith, length_between l m e g j) }
+shifted l at m e g j q = record { places = q; count = omega (arith, length_between l m e g j) }
 
 -- nothing is moved
 pub keep_both : (l : List ℕ) (m e : ℕ) → m ≤ e → e ≤ length l → Stacked l m (between m e l) l e

@@ -23,9 +23,7 @@ use Rattle.operands.specs.Operands.{operands_at}
 use Rattle.placement.specs.Place.{elder_of, depth_of, holds_conditions, single_of, rank_at, elder_rank, stands_ok, child_rule, child_broken, top_ok, broken_at, place_ok}
 use Rattle.judge.specs.Judge.{judge_records, judge_of}
 use Rattle.judge.specs.Request.{judge_entries, judge_request_of}
-use Rattle.decider.specs.Outcome.{duties_of, outcome_of, out_of}
-use Rattle.decider.specs.declared.Outcome.{Outcome}
-use Rattle.decider.specs.declared.Outcome.TheVariants.{Decided}
+use Rattle.decider.specs.Outcome.{duties_of, outcome_of, out_of, Outcome, decided_with}
 
 -- a set over A: deny-overrides, permit-overrides; an only-one set over a policy without rules, then A
 deny_set : List ℕ
@@ -97,10 +95,10 @@ run : List ℕ → List ℕ → Row
 run b q = record { answer = outcome_of (lines b) (lines q) 4; places = out_of (lines b) (lines q) (9 ∷ 9 ∷ 9 ∷ 9 ∷ []) }
 
 none : Verdict → Row
-none v = record { answer = Decided v 0; places = 0 ∷ 0 ∷ 0 ∷ 0 ∷ [] }
+none v = record { answer = decided_with v 0; places = 0 ∷ 0 ∷ 0 ∷ 0 ∷ [] }
 
 one : Verdict → ℕ → Row
-one v x = record { answer = Decided v 1; places = x ∷ 0 ∷ 0 ∷ 0 ∷ [] }
+one v x = record { answer = decided_with v 1; places = x ∷ 0 ∷ 0 ∷ 0 ∷ [] }
 
 -- missing: the Deny rule's bag is empty (P1, P8), as is the bag of the subjects section's match (P10); a processing error: a bag of two (P6), two children
 -- that apply (P9); a Deny made from an Indeterminate child has no code (P7). With an issuer only that maker's value counts, nobody's does not; without

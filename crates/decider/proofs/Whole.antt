@@ -1,4 +1,5 @@
 -- The whole call: judged in order, then decided. Assumes nothing.
+use Rattle.std.specs.Prelude.{Err, Ok}
 use mathlib.Core.Path.{◌≡◌, refl, sym, ap, ◌∙◌}
 use mathlib.Core.Bool.{Bool, true, false}
 use mathlib.Core.List.{List, ◌++◌}
@@ -11,7 +12,7 @@ use borrow.Author.Tests.{lt-ltb, le-ltb, ltb-true, ltb-false}
 use Rattle.record.specs.Bytes.{size, most_records}
 use Rattle.record.specs.Choose.{if}
 use Rattle.record.specs.Forest.{forest, height}
-use Rattle.record.specs.Refusals.{no_room}
+use Rattle.record.specs.Refusals.{line_of, no_room}
 use Rattle.record.specs.declared.Refusal.{Refusal}
 use Rattle.fields.specs.Fields.{obligations_of}
 use Rattle.fields.proofs.First.{by}
@@ -19,19 +20,15 @@ use Rattle.meaning.specs.Meaning.{verdict_in, owed, decides, obliges}
 use Rattle.meaning.specs.Reading.{book_of, bags_of}
 use Rattle.meaning.proofs.Alike.{counts_by_tests}
 use Rattle.meaning.specs.declared.Verdict.{Verdict}
-use Rattle.judge.specs.Judge.{judge_of}
-use Rattle.judge.specs.Request.{judge_request_of}
-use Rattle.judge.specs.declared.Judged.{Judged}
-use Rattle.judge.specs.declared.Judged.TheVariants as book
-use Rattle.judge.specs.declared.JudgedRequest.{JudgedRequest}
-use Rattle.judge.specs.declared.JudgedRequest.TheVariants as request
+use Rattle.judge.specs.declared.Accepted.{Accepted}
+use Rattle.judge.specs.Judge.{judge_of, Judged}
+use Rattle.judge.specs.Request.{judge_request_of, JudgedRequest}
 use Rattle.judge.proofs.Depth.{accepted_deep}
 use Rattle.judge.proofs.Exactly.{accepted_keeps}
 use Rattle.judge.proofs.Bounds.{refused_small, accepted_small, refused_request_small}
-use Rattle.decider.specs.Outcome.{duties_of, in_order, outcome_of, out_of, OutcomeByTests}
+use Rattle.decider.specs.Outcome.{duties_of, in_order, outcome_of, out_of, OutcomeByTests, Outcome, decided_with}
+use Rattle.decider.specs.declared.Ruling.{Ruling}
 use Rattle.decider.specs.Inside.{tree_from, child_at, room_of, Ruled, Answered}
-use Rattle.decider.specs.declared.Outcome.{Outcome}
-use Rattle.decider.specs.declared.Outcome.TheVariants.{Decided, Refused}
 use Rattle.decider.proofs.Stack.{cleared}
 use Rattle.decider.proofs.Rooms.{count_forest}
 
@@ -57,30 +54,30 @@ answered b q n e w k c =
 
 -- judged in order
 module _ (b q l : List ℕ) where
-  pub refused_book : {r : Refusal} {j : Judged} → j ≡ judge_of b → j ≡ book.Refused r → (Refused r ≡ outcome_of b q (length l)) × (l ≡ out_of b q l)
+  pub refused_book : {r : Refusal} {j : Judged} → j ≡ judge_of b → j ≡ Err r → (Err r ≡ outcome_of b q (length l)) × (l ≡ out_of b q l)
   unfolding outcome_of out_of
   refused_book ej e = (rw (← ej, e), rw (← ej, e))
 
-  module _ {n k : ℕ} {j : Judged} {h : JudgedRequest} (ej : j ≡ judge_of b) (e : j ≡ book.Accepted n k) (eh : h ≡ judge_request_of q) where
-    pub refused_request : {r : Refusal} → h ≡ request.Refused r → (Refused r ≡ outcome_of b q (length l)) × (l ≡ out_of b q l)
+  module _ {a : Accepted} {j : Judged} {h : JudgedRequest} (ej : j ≡ judge_of b) (e : j ≡ Ok a) (eh : h ≡ judge_request_of q) where
+    pub refused_request : {r : Refusal} → h ≡ Err r → (Err r ≡ outcome_of b q (length l)) × (l ≡ out_of b q l)
     unfolding outcome_of out_of
     refused_request f = (rw (← ej, e, ← eh, f), rw (← ej, e, ← eh, f))
 
-    pub refused_room : {m : ℕ} {r : Refusal} → h ≡ request.Accepted m → length l < k → r ≡ no_room → (Refused r ≡ outcome_of b q (length l)) × (l ≡ out_of b q l)
+    pub refused_room : {m : ℕ} → h ≡ Ok m → length l < a.obligations → (Err no_room ≡ outcome_of b q (length l)) × (l ≡ out_of b q l)
     unfolding outcome_of out_of
-    refused_room f g er = (rw (← ej, e, ← eh, f, lt-ltb _ _ g, er), rw (← ej, e, ← eh, f, lt-ltb _ _ g))
+    refused_room f g = (rw (← ej, e, ← eh, f, lt-ltb _ _ g), rw (← ej, e, ← eh, f, lt-ltb _ _ g))
 
-    pub decided : {m c : ℕ} {v : Verdict} {o : List ℕ} → h ≡ request.Accepted m → k ≤ length l → Answered b q l o v c
-        → (Decided v c ≡ outcome_of b q (length l)) × (o ≡ out_of b q l)
+    pub decided : {m : ℕ} {d : Ruling} {o : List ℕ} → h ≡ Ok m → a.obligations ≤ length l → Answered b q l o d.verdict d.count
+        → (Ok d ≡ outcome_of b q (length l)) × (o ≡ out_of b q l)
     unfolding outcome_of out_of
     decided f g w = (rw (← ej, e, ← eh, f, le-ltb _ _ g, w.says, w.puts), rw (← ej, e, ← eh, f, le-ltb _ _ g) w.leaves)
 
 -- an accepted book has so many records, so many of them are obligations, and at most 15 levels lie below its first record
-pub accepted_has : (b : List ℕ) {n k : ℕ} {j : Judged} → j ≡ judge_of b → j ≡ book.Accepted n k
-    → (0 < n) × (length b ≡ n * size) × (k ≡ obligations_of b n) × (height (forest b 1 (n - 1)) ≤ 15)
-accepted_has b {n} {k} ej e =
-    let w = accepted_keeps b n k (sym ej ∙ e) in
-    (w.0.sized.some, w.0.sized.bytes, w.1, accepted_deep b n k (sym ej ∙ e))
+pub accepted_has : (b : List ℕ) {a : Accepted} {j : Judged} → j ≡ judge_of b → j ≡ Ok a
+    → (0 < a.records) × (length b ≡ a.records * size) × (a.obligations ≡ obligations_of b a.records) × (height (forest b 1 (a.records - 1)) ≤ 15)
+accepted_has b {a} ej e =
+    let w = accepted_keeps b a.records a.obligations (sym ej ∙ e) in
+    (w.0.sized.some, w.0.sized.bytes, w.1, accepted_deep b a.records a.obligations (sym ej ∙ e))
 
 -- so no book asks for more than 1,000 places
 room_test : (room k : ℕ) → k ≤ most_records → ltb (min room most_records) k ≡ ltb room k
@@ -91,26 +88,26 @@ room_test room k h =
 
 pub most_room : (b q : List ℕ) (room : ℕ) → outcome_of b q (min room most_records) ≡ outcome_of b q room
 unfolding outcome_of
-most_room b q room = go (judge_of b) refl (judge_request_of q) (Decided (decides (bags_of q) (book_of b)) (length (duties_of b q)))
+most_room b q room = go (judge_of b) refl (judge_request_of q) (decided_with (decides (bags_of q) (book_of b)) (length (duties_of b q)))
   where
     go : (j : Judged) → j ≡ judge_of b → (h : JudgedRequest) (a : Outcome) → in_order j h (min room most_records) a ≡ in_order j h room a
-    go (book.Refused r) e h a = refl
-    go (book.Accepted n k) e (request.Refused r) a = refl
-    go (book.Accepted n k) e (request.Accepted m) a =
-        let w = accepted_small b n k (sym e) in
-        rw (room_test room k (omega (arith, w.0, w.1)))
+    go (Err r) e h a = refl
+    go (Ok x) e (Err r) a = refl
+    go (Ok x) e (Ok m) a =
+        let w = accepted_small b x.records x.obligations (sym e) in
+        rw (room_test room x.obligations (omega (arith, w.0, w.1)))
 
 -- what an answer says of its call
-inverted : (j : Judged) (h : JudgedRequest) (room : ℕ) (v : Verdict) (m : ℕ) {u : Verdict} {n : ℕ} → in_order j h room (Decided v m) ≡ Decided u n → n ≡ m
-inverted (book.Refused r) h room v m e = cc
-inverted (book.Accepted n k) (request.Refused r) room v m e = cc
-inverted (book.Accepted n k) (request.Accepted p) room v m e = go (ltb room k) e
+inverted : (j : Judged) (h : JudgedRequest) (room : ℕ) (v : Verdict) (m : ℕ) {u : Verdict} {n : ℕ} → in_order j h room (decided_with v m) ≡ decided_with u n → n ≡ m
+inverted (Err r) h room v m e = cc
+inverted (Ok x) (Err r) room v m e = cc
+inverted (Ok x) (Ok p) room v m e = go (ltb room x.obligations) e
   where
-    go : (t : Bool) {u : Verdict} {n : ℕ} → if t (Refused no_room) (Decided v m) ≡ Decided u n → n ≡ m
+    go : (t : Bool) {u : Verdict} {n : ℕ} → if t (Err no_room) (decided_with v m) ≡ decided_with u n → n ≡ m
     go true e = cc
-    go false e = cc
+    go false {u} {n} e = let q : ◌≡◌ {A = Ruling} (record { verdict = v; count = m }) (record { verdict = u; count = n }) = cc in sym (ap (λ (d : Ruling). d.count) q)
 
-pub decided_puts : (b q l : List ℕ) {e : List ℕ} {o : Outcome} {v : Verdict} {n : ℕ} → o ≡ outcome_of b q (length l) → o ≡ Decided v n → e ≡ out_of b q l
+pub decided_puts : (b q l : List ℕ) {e : List ℕ} {o : Outcome} {v : Verdict} {n : ℕ} → o ≡ outcome_of b q (length l) → o ≡ decided_with v n → e ≡ out_of b q l
     → length e ≡ length l → (n ≤ length e) × (take n e ≡ duties_of b q)
 unfolding outcome_of out_of
 decided_puts b q l {e} {o} {v} {n} eo ev ee el =
@@ -119,19 +116,19 @@ decided_puts b q l {e} {o} {v} {n} eo ev ee el =
     let y : length e ≡ length (duties_of b q) + length (replicate {A = ℕ} (length l - length (duties_of b q)) 0) = ap length x ∙ length-append (duties_of b q) (replicate (length l - length (duties_of b q)) 0) in
     (omega (arith, y, c), rw x (take_at (duties_of b q) (replicate (length l - length (duties_of b q)) 0) n (sym c)))
 
-pub refused_line : (b q : List ℕ) (room : ℕ) {r : Refusal} → outcome_of b q room ≡ Refused r → r.line ≤ most_records
+pub refused_line : (b q : List ℕ) (room : ℕ) {r : Refusal} → outcome_of b q room ≡ Err r → line_of r ≤ most_records
 unfolding outcome_of
 refused_line b q room {r} = go (judge_of b) refl (judge_request_of q) refl
   where
-    same : {s t : Refusal} → Refused s ≡ Refused t → s.line ≤ most_records → t.line ≤ most_records
+    same : {s t : Refusal} → ◌≡◌ {A = Outcome} (Err s) (Err t) → line_of s ≤ most_records → line_of t ≤ most_records
     same {s} {t} e h = let x : s ≡ t = cc in rw (← x) h
 
-    go : (j : Judged) → j ≡ judge_of b → (h : JudgedRequest) → h ≡ judge_request_of q → in_order j h room (Decided (decides (bags_of q) (book_of b)) (length (duties_of b q))) ≡ Refused r → r.line ≤ most_records
-    go (book.Refused s) ej h eh e = same e (refused_small b s (sym ej)).line
-    go (book.Accepted n k) ej (request.Refused s) eh e = same e (omega (arith, (refused_request_small q s (sym eh)).line))
-    go (book.Accepted n k) ej (request.Accepted m) eh e = at (ltb room k) e
+    go : (j : Judged) → j ≡ judge_of b → (h : JudgedRequest) → h ≡ judge_request_of q → in_order j h room (decided_with (decides (bags_of q) (book_of b)) (length (duties_of b q))) ≡ Err r → line_of r ≤ most_records
+    go (Err s) ej h eh e = same e (refused_small b s (sym ej)).line
+    go (Ok x) ej (Err s) eh e = same e (omega (arith, (refused_request_small q s (sym eh)).line))
+    go (Ok x) ej (Ok m) eh e = at (ltb room x.obligations) e
       where
-        at : (t : Bool) → if t (Refused no_room) (Decided (decides (bags_of q) (book_of b)) (length (duties_of b q))) ≡ Refused r → r.line ≤ most_records
+        at : (t : Bool) → if t (Err no_room) (decided_with (decides (bags_of q) (book_of b)) (length (duties_of b q))) ≡ Err r → line_of r ≤ most_records
         at true e = same e (omega arith)
         at false e = let z : ◌≡◌ {A = ℕ} 0 1 = cc in absurd (omega arith)
 
@@ -140,8 +137,8 @@ pub outcome_by_tests : OutcomeByTests
 unfolding outcome_of duties_of
 outcome_by_tests b q r room n m eq er typed same =
     let e = counts_by_tests (bags_of q) (bags_of r) same (book_of b) typed in
-    (rw (eq, er, e.0, e.1) (go (judge_of b) (Decided (decides (bags_of r) (book_of b)) (length (obliges (bags_of r) (book_of b))))), e.1)
+    (rw (eq, er, e.0, e.1) (go (judge_of b) (decided_with (decides (bags_of r) (book_of b)) (length (obliges (bags_of r) (book_of b))))), e.1)
   where
-    go : (j : Judged) (a : Outcome) → in_order j (request.Accepted n) room a ≡ in_order j (request.Accepted m) room a
-    go (book.Refused x) a = refl
-    go (book.Accepted x y) a = refl
+    go : (j : Judged) (a : Outcome) → in_order j (Ok n) room a ≡ in_order j (Ok m) room a
+    go (Err x) a = refl
+    go (Ok x) a = refl

@@ -1,7 +1,8 @@
 -- What the functions inside the decider say to each other. Assumes nothing.
-use Rattle.std.specs.Prelude.{ℕ, ◌+◌, ◌-◌, ◌≤◌, ◌<◌, ◌≡◌, Bool, true, false, List, [], ◌∷◌, ◌++◌, length, replicate}
+use Rattle.std.specs.Prelude.{ℕ, ◌+◌, ◌-◌, ◌≤◌, ◌<◌, ◌≡◌, Bool, true, false, List, [], ◌∷◌, ◌++◌, length, replicate, Option, None, Some, Result, Ok, Err}
 use Rattle.record.specs.Choose.{if, both}
 use Rattle.record.specs.Forest.{Forest, none, node, forest, height}
+use Rattle.sums.specs.declared.Status.{Status}
 use Rattle.sums.specs.declared.Status.TheVariants.{Processing}
 use Rattle.meaning.specs.Logic.{some}
 use Rattle.meaning.specs.Policy.{Tree, policy, set}
@@ -17,8 +18,6 @@ use Rattle.meaning.specs.declared.Algorithm.{Algorithm}
 use Rattle.meaning.specs.declared.Algorithm.TheVariants.{OnlyOne}
 use Rattle.decider.specs.Outcome.{duties_of}
 use Rattle.decider.specs.Places.{Holds}
-use Rattle.decider.specs.declared.Pick.{Pick}
-use Rattle.decider.specs.declared.Pick.TheVariants.{Nobody, One, Many}
 
 -- record i with the span s: its tree, and what a parent sees of it; and the policies and sets that stand among `count` records from `from` on
 unfoldable pub tree_from : List ℕ → ℕ → ℕ → Tree
@@ -93,26 +92,22 @@ pub record Single (b : List ℕ) (g : Bags) (from count j s : ℕ) : Type 0 wher
   pub alone : applying (children_in b g from count) ≡ child_at b g j s ∷ []
   pub applies : Applies b g from count j s
 
+-- the one child that applies, by place and span, if one does; or why there is none
+abbrev pub Pick : Type 0
+Pick = Result (Option (ℕ × ℕ)) Status
+
 -- what the targets of the children leave to only-one
 unfoldable pub Picked : List ℕ → Bags → ℕ → ℕ → Pick → Type 0
-Picked b g from count Nobody = verdict_of OnlyOne (children_in b g from count) ≡ verdict.NotApplicable
-Picked b g from count (One j s) = Single b g from count j s
-Picked b g from count (Many why) = verdict_of OnlyOne (children_in b g from count) ≡ verdict.Indeterminate why
+Picked b g from count (Ok None) = verdict_of OnlyOne (children_in b g from count) ≡ verdict.NotApplicable
+Picked b g from count (Ok (Some x)) = Single b g from count x.0 x.1
+Picked b g from count (Err why) = verdict_of OnlyOne (children_in b g from count) ≡ verdict.Indeterminate why
 
 -- a target more: an Indeterminate one, or a second that matches, which is a processing error; the first such counts
-abbrev pub picking : Pick → Truth → ℕ → ℕ → Pick
-picking p False i s = p
-picking Nobody True i s = One i s
-picking (One j t) True i s = Many Processing
-picking (Many why) True i s = Many why
-picking Nobody (Unknown why) i s = Many why
-picking (One j t) (Unknown why) i s = Many why
-picking (Many why) (Unknown later) i s = Many why
-
-abbrev pub is_many : Pick → Bool
-is_many Nobody = false
-is_many (One j s) = false
-is_many (Many why) = true
+abbrev pub picking : Option (ℕ × ℕ) → Truth → ℕ → ℕ → Pick
+picking p False i s = Ok p
+picking p (Unknown why) i s = Err why
+picking None True i s = Ok (Some (i, s))
+picking (Some x) True i s = Err Processing
 
 -- the answer of a book, and what it leaves of the places l
 pub record Answered (b q l e : List ℕ) (v : Verdict) (n : ℕ) : Type 0 where

@@ -4,73 +4,51 @@
 ghost use Rattle.std.specs.Prelude.{◌≡◌, false, ◌+◌, ◌*◌, ◌-◌, ◌<◌, ◌≤◌, length};
 ghost use Rattle.record.specs.Bytes.{size};
 ghost use Rattle.record.specs.Forest.{forest, height};
-ghost use Rattle.meaning.specs.Meaning.{target_of, is, verdict_in, owed, is_only, verdict_of, own_of, binding};
+ghost use Rattle.meaning.specs.Meaning.{target_of, verdict_in, owed, is_only, verdict_of, own_of, binding};
 ghost use Rattle.meaning.specs.Reading.{target_in, obligations_in, bags_of};
 ghost use Rattle.fields.specs.Fields.{obligations_of};
 ghost use Rattle.decider.specs.Outcome.{outcome_of, out_of};
-ghost use Rattle.decider.specs.Inside.{Answered, child_at, children_in, is_due, keeps, up_of, up_at, direct_of, room_of, deep_of, Put, Ruled, Picked, picking, is_many};
+ghost use Rattle.decider.specs.Inside.{Answered, child_at, children_in, is_due, keeps, up_of, up_at, direct_of, room_of, deep_of, Put, Ruled, Picked, picking};
 
-use judge::{Judged, JudgedRequest};
 use meaning::{Algorithm, Decision, Effect, Truth, Verdict};
 use record::Refusal;
+use record::kind::{OBLIGATION, SET};
+use record::siblings::Siblings;
 use sums::Status;
 
 mod places;
 
-// The verdict and how many obligations were put, or a refusal.
-#[derive(Clone, Copy)]
-pub enum Outcome {
-    Decided(Verdict, usize),
-    Refused(Refusal),
-}
+// So many levels may lie below the first record of an accepted book.
+const MOST_BELOW: usize = 15;
 
-// The one child whose target matches, by place and span, for only-one; where that cannot be one, why.
-#[derive(Clone, Copy)]
-enum Pick {
-    Nobody,
-    One(usize, usize),
-    Many(Status),
-}
+// The one child whose target matches, by place and span, for only-one, if one does; where that cannot be one, why.
+type Pick = Result<Option<(usize, usize)>, Status>;
 
 // A verdict, and how many places its obligations end at.
 #[derive(Clone, Copy)]
-struct Ruling {
-    verdict: Verdict,
-    count: usize,
-}
-
-fn same(a: Decision, b: Decision) -> bool
-    ensures { result ≡ is a b }
-{
-    meaning::number(a) == meaning::number(b)
+pub struct Ruling {
+    pub verdict: Verdict,
+    pub count: usize,
 }
 
 // Whether obligations that came with d stay where v is decided.
 fn stay(d: Decision, v: Decision) -> bool
     ensures { result ≡ keeps d v }
 {
-    match v {
-        Decision::Permit => same(d, Decision::Permit),
-        Decision::Deny => same(d, Decision::Deny),
-        Decision::NotApplicable => false,
-        Decision::Indeterminate => false,
-    }
+    matches!(v, Decision::Permit | Decision::Deny) && d == v
 }
 
 // Whether record i is an obligation for d.
+#[tactic(auto, unfolding(crate::specs::Inside::is_due))]
 fn is_due(book: &[u8], i: usize, d: Decision) -> bool
     requires { (i + 1) * size ≤ length book.now }
     ensures { result ≡ is_due book.now i d }
 {
-    let kind = record::byte(book, i, 0);
-    if kind != 8 {
-        return false;
-    }
-    let choice = record::byte(book, i, 1);
-    if choice == 1 {
-        return same(d, Decision::Permit);
-    }
-    same(d, Decision::Deny)
+    let due = match meaning::effect_of(record::byte(book, i, 1)) {
+        Effect::Permits => Decision::Permit,
+        Effect::Denies => Decision::Deny,
+    };
+    record::byte(book, i, 0) == OBLIGATION && d == due
 }
 
 // Puts the obligations for d that stand among `count` records from `from` on, on top of n places.
@@ -79,21 +57,12 @@ fn put(book: &[u8], from: usize, count: usize, d: Decision, out: &mut [u16], n: 
     ensures { Put out.old n (own_of d (obligations_in book.now (forest book.now from count)))
         (direct_of book.now (forest book.now from count)) out.new result }
 {
-    let mut i = from;
-    let mut left = count;
     let mut m = n;
-    while 0 < left {
-        let s = record::span_in(book, i, left);
+    for (i, _) in Siblings::new(book, from, count) {
         if is_due(book, i, d) {
-            let x = record::big2(book, i * record::SIZE + 6);
-            out[m] = x;
+            out[m] = record::big2(book, i * record::SIZE + 6);
             m += 1;
-            i += s;
-            left -= s;
-            continue;
         }
-        i += s;
-        left -= s;
     }
     m
 }
@@ -105,38 +74,20 @@ fn own(book: &[u8], from: usize, count: usize, d: Decision, out: &mut [u16], n: 
         (direct_of book.now (forest book.now from count)) out.new result }
 {
     match d {
-        Decision::Permit => put(book, from, count, d, out, n),
-        Decision::Deny => put(book, from, count, d, out, n),
-        Decision::NotApplicable => n,
-        Decision::Indeterminate => n,
+        Decision::Permit | Decision::Deny => put(book, from, count, d, out, n),
+        Decision::NotApplicable | Decision::Indeterminate => n,
     }
 }
 
-fn note(p: Pick, t: Truth, i: usize, s: usize) -> Pick
+// One child more, record i with the span s, whose target is t.
+fn note(p: Option<(usize, usize)>, t: Truth, i: usize, s: usize) -> Pick
     ensures { result ≡ picking p t i s }
 {
-    match t {
-        Truth::False => p,
-        Truth::Unknown(why) => match p {
-            Pick::Nobody => Pick::Many(why),
-            Pick::One(_, _) => Pick::Many(why),
-            Pick::Many(_) => p,
-        },
-        Truth::True => match p {
-            Pick::Nobody => Pick::One(i, s),
-            Pick::One(_, _) => Pick::Many(Status::Processing),
-            Pick::Many(_) => p,
-        },
-    }
-}
-
-fn is_many(p: Pick) -> bool
-    ensures { result ≡ is_many p }
-{
-    match p {
-        Pick::Nobody => false,
-        Pick::One(_, _) => false,
-        Pick::Many(_) => true,
+    match (t, p) {
+        (Truth::False, _) => Ok(p),
+        (Truth::Unknown(why), _) => Err(why),
+        (Truth::True, None) => Ok(Some((i, s))),
+        (Truth::True, Some(_)) => Err(Status::Processing),
     }
 }
 
@@ -145,28 +96,18 @@ fn choose(book: &[u8], request: &[u8], from: usize, count: usize) -> Pick
     requires { (from + count) * size ≤ length book.now }
     ensures { Picked book.now (bags_of request.now) from count result }
 {
-    let mut i = from;
-    let mut left = count;
-    let mut p = Pick::Nobody;
-    while 0 < left {
-        let s = record::span_in(book, i, left);
+    let mut p = None;
+    for (i, s) in Siblings::new(book, from, count) {
         if !meaning::is_party(book, i) {
-            i += s;
-            left -= s;
             continue;
         }
-        let t = rules::target(book, request, i + 1, s - 1);
-        p = note(p, t, i, s);
-        if is_many(p) {
-            return p;
-        }
-        i += s;
-        left -= s;
+        p = note(p, rules::target(book, request, i + 1, s - 1), i, s)?;
     }
-    p
+    Ok(p)
 }
 
 // Record i with the span s as its parent sees it, where t is its target: its verdict, and its obligations on top of n places. `depth` levels may lie below it.
+// Kept: this and the next three hand on book, request, depth, out and n; depth and n change below each record, so a struct would be built anew for each.
 #[cycle(body_child_gather_walk)]
 fn child(
     book: &[u8],
@@ -216,11 +157,16 @@ fn body(
         (room_of book.now (forest book.now (i + 1) (s - 1))) out.new result.verdict result.count }
 {
     let r = gather(book, request, i, s, depth, out, n);
-    let v = r.verdict;
-    let m = own(book, i + 1, s - 1, meaning::decision_in(v), out, r.count);
     Ruling {
-        verdict: v,
-        count: m,
+        verdict: r.verdict,
+        count: own(
+            book,
+            i + 1,
+            s - 1,
+            meaning::decision_in(r.verdict),
+            out,
+            r.count,
+        ),
     }
 }
 
@@ -241,28 +187,25 @@ fn gather(
         (up_at book.now (bags_of request.now) i s)
         (deep_of book.now (forest book.now (i + 1) (s - 1))) out.new result.verdict result.count }
 {
-    let kind = record::byte(book, i, 0);
     let choice = record::byte(book, i, 1);
-    if kind != 1 {
-        let v = rules::rules(book, request, i + 1, s - 1, choice);
+    if record::byte(book, i, 0) != SET {
         return Ruling {
-            verdict: v,
+            verdict: rules::rules(book, request, i + 1, s - 1, choice),
             count: n,
         };
     }
     let a = meaning::over_policies(choice);
     if meaning::is_only(a) {
-        let p = choose(book, request, i + 1, s - 1);
-        return match p {
-            Pick::Nobody => Ruling {
+        return match choose(book, request, i + 1, s - 1) {
+            Ok(Some((j, t))) => body(book, request, j, t, depth - 1, out, n),
+            Ok(None) => Ruling {
                 verdict: Verdict::NotApplicable,
                 count: n,
             },
-            Pick::Many(why) => Ruling {
+            Err(why) => Ruling {
                 verdict: Verdict::Indeterminate(why),
                 count: n,
             },
-            Pick::One(j, t) => body(book, request, j, t, depth - 1, out, n),
         };
     }
     walk(book, request, i + 1, s - 1, a, depth, out, n)
@@ -286,47 +229,32 @@ fn walk(
         (up_of a (children_in book.now (bags_of request.now) from count))
         (deep_of book.now (forest book.now from count)) out.new result.verdict result.count }
 {
-    let mut i = from;
-    let mut left = count;
     let mut k = algorithm::tally::begin(a);
     let mut m = n;
-    while 0 < left {
-        let s = record::span_in(book, i, left);
+    for (i, s) in Siblings::new(book, from, count) {
         if !meaning::is_party(book, i) {
-            i += s;
-            left -= s;
             continue;
         }
-        let next = i + s;
         let t = rules::target(book, request, i + 1, s - 1);
         let r = child(book, request, i, s, depth - 1, out, m, t);
-        let v = r.verdict;
-        let e = r.count;
-        let d = meaning::decision_in(v);
-        let earlier = k.acc;
-        let before = algorithm::outcome(a, earlier);
+        let d = meaning::decision_in(r.verdict);
+        let before = algorithm::outcome(a, k.acc);
         // A child here is no rule: the effect counts for nothing.
-        k = algorithm::tally::take_in(a, k, Effect::Permits, v);
-        let acc = k.acc;
-        let after = algorithm::outcome(a, acc);
-        m = places::settle(out, n, m, e, stay(before, after), stay(d, after));
-        if algorithm::settles(a, acc) {
+        k = algorithm::tally::take_in(a, k, Effect::Permits, r.verdict);
+        let after = algorithm::outcome(a, k.acc);
+        m = places::settle(out, n, m, r.count, stay(before, after), stay(d, after));
+        if algorithm::settles(a, k.acc) {
             return Ruling {
                 verdict: algorithm::tally::verdict(a, k),
                 count: m,
             };
         }
-        i = next;
-        left -= s;
     }
     Ruling {
         verdict: algorithm::tally::verdict(a, k),
         count: m,
     }
 }
-
-// So many levels may lie below the first record of an accepted book.
-const MOST_BELOW: usize = 15;
 
 // What the book of so many records decides for a request, with its obligations first in out and zeros after them.
 fn answer(book: &[u8], request: &[u8], records: usize, out: &mut [u16]) -> Ruling
@@ -336,32 +264,20 @@ fn answer(book: &[u8], request: &[u8], records: usize, out: &mut [u16]) -> Rulin
 {
     let t = rules::target(book, request, 1, records - 1);
     let r = child(book, request, 0, records, MOST_BELOW, out, 0, t);
-    let n = r.count;
-    lent::clear(out, n);
+    lent::clear(out, r.count);
     r
 }
 
 // Judges book, request and output, then decides: the verdict, and the obligations first in out and zeros after them. A refusal leaves out as
 // it was.
-pub fn decide(book: &[u8], request: &[u8], out: &mut [u16]) -> Outcome
+pub fn decide(book: &[u8], request: &[u8], out: &mut [u16]) -> Result<Ruling, Refusal>
     ensures { (result ≡ outcome_of book.now request.now (length out.old))
         × (out.new ≡ out_of book.now request.now out.old) }
 {
-    match judge::judge_book(book) {
-        Judged::Refused(r) => Outcome::Refused(r),
-        Judged::Accepted {
-            records,
-            obligations,
-        } => match judge::judge_request(request) {
-            JudgedRequest::Refused(r) => Outcome::Refused(r),
-            JudgedRequest::Accepted { entries: _ } => {
-                if out.len() < obligations {
-                    return Outcome::Refused(record::no_room());
-                }
-                let r = answer(book, request, records, out);
-                let v = r.verdict;
-                Outcome::Decided(v, r.count)
-            }
-        },
+    let accepted = judge::judge_book(book)?;
+    judge::judge_request(request)?;
+    if out.len() < accepted.obligations {
+        return Err(Refusal::NoRoom);
     }
+    Ok(answer(book, request, accepted.records, out))
 }

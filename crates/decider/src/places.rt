@@ -1,4 +1,5 @@
 // Obligations in lent places, as a stack.
+// Kept: `out` and heights apart: `settle` moves within one lent row, and contracts say `Stacked` by its heights.
 ghost use Rattle.std.specs.Prelude.{[], ◌≤◌, length};
 ghost use Rattle.record.specs.Choose.{if};
 ghost use Rattle.decider.specs.Places.{Stacked, between};
@@ -8,14 +9,8 @@ fn shift(out: &mut [u16], at: usize, m: usize, e: usize) -> usize
     requires { (at ≤ m) × (m ≤ e) × (e ≤ length out.old) }
     ensures { Stacked out.old at (between m e out.old) out.new result }
 {
-    let total = e - m;
-    let mut k: usize = 0;
-    while k < total {
-        let x = out[m + k];
-        out[at + k] = x;
-        k += 1;
-    }
-    at + total
+    out.copy_within(m..e, at);
+    at + (e - m)
 }
 
 // What stays of the places from base to m (if `old`) and from m to e (if `new`), on top of base.
@@ -23,14 +18,10 @@ pub fn settle(out: &mut [u16], base: usize, m: usize, e: usize, old: bool, new: 
     requires { (base ≤ m) × (m ≤ e) × (e ≤ length out.old) }
     ensures { Stacked out.old (if old m base) (if new (between m e out.old) []) out.new result }
 {
-    if new {
-        if old {
-            return e;
-        }
-        return shift(out, base, m, e);
+    match (old, new) {
+        (false, false) => base,
+        (true, false) => m,
+        (false, true) => shift(out, base, m, e),
+        (true, true) => e,
     }
-    if old {
-        return m;
-    }
-    base
 }

@@ -1,4 +1,5 @@
 -- The claims of specs/Demand.antt. Assumes nothing.
+use Rattle.std.specs.Prelude.{Ok}
 use Prim.Native.Nat.{ℕ, ◌+◌, ◌-◌, ◌*◌, ◌/◌, ◌≤◌, ◌<◌, min}
 use mathlib.Core.Path.{◌≡◌, refl, ap, ◌∙◌}
 use mathlib.Core.Bool.{Bool, true, false}
@@ -16,12 +17,10 @@ use Rattle.meaning.specs.Meaning.{Bags, decides, obliges}
 use Rattle.meaning.specs.Reading.{key_at, test_at, match_at, comparison_at, book_of, bags_of}
 use Rattle.meaning.specs.declared.Verdict.{Verdict}
 use Rattle.meaning.specs.declared.Effect.TheVariants.{Permits, Denies}
-use Rattle.judge.specs.Judge.{judge_of}
+use Rattle.judge.specs.Judge.{judge_of, accepted_with}
 use Rattle.judge.specs.Request.{judge_request_of}
 use Rattle.placement.specs.Keeps.{Keeps}
 use Rattle.judge.specs.Sound.{Nested}
-use Rattle.judge.specs.declared.Judged.TheVariants as book
-use Rattle.judge.specs.declared.JudgedRequest.TheVariants as request
 use Rattle.judge.proofs.Exactly.{accepted_keeps}
 use Rattle.judge.proofs.Sound.{kept_nests}
 use Rattle.judge.proofs.Depth.{book_deep}
@@ -31,9 +30,8 @@ use Rattle.moves.specs.Core.{at_once}
 use Rattle.layout.specs.Layout.{fetch}
 use Rattle.programme.specs.Step.{is_over, fresh_of}
 use Rattle.layout.proofs.Spelling.{Key, Short}
-use Rattle.run.specs.Run.{run_of}
+use Rattle.run.specs.Run.{run_of, Ran}
 use Rattle.run.specs.Tick.{admitted, Ticked, answered, tick_of}
-use Rattle.run.specs.declared.kinds.Ran.{Ran}
 use Rattle.run.proofs.Runs.{runs_stay_allowed}
 use Rattle.promises.specs.Steps.{after_steps}
 use Rattle.promises.proofs.Steps.{runs_are, steps_add, left_after}
@@ -74,7 +72,7 @@ record Sizes (b : List ℕ) (n : ℕ) : Type 0 where
   most : n ≤ most_records
   nest : (nest_tree (book_of b) ≤ 16) × (deep_tree (book_of b) ≤ 14)
 
-sizes : (b : List ℕ) (n o : ℕ) → judge_of b ≡ book.Accepted n o → Sizes b n
+sizes : (b : List ℕ) (n o : ℕ) → judge_of b ≡ accepted_with n o → Sizes b n
 sizes b n o e =
     let k : Keeps b n = (accepted_keeps b n o e).0 in
     let z = k.sized in
@@ -96,7 +94,7 @@ pub record Spelled (b p : List ℕ) (es : List Entry) (n : ℕ) : Type 0 where
   pub laws : (i : ℕ) → i < length es → is_further (get_or es i further) ≡ false → lawful (length p) i (fetch p i) ≡ true
   pub answers : (g : Bags) → Answers g (fetch p) es (flat_of fresh_of) (decides g (book_of b)) (obliges g (book_of b))
 
-pub spelled : (b : List ℕ) (n o : ℕ) → Bytes b → judge_of b ≡ book.Accepted n o → Spelled b (programme_of b) (translated (book_of b)) n
+pub spelled : (b : List ℕ) (n o : ℕ) → Bytes b → judge_of b ≡ accepted_with n o → Spelled b (programme_of b) (translated (book_of b)) n
 unfolding programme_of translated
 spelled b n o w e =
     let s = sizes b n o e in
@@ -124,7 +122,7 @@ pub few_entries : FewEntries
 few_entries b n o w e = (spelled b n o w e).short
 
 -- ticks of a programme with such a run
-module _ (p q : List ℕ) (m : ℕ) (asked : judge_request_of q ≡ request.Accepted m) (long : length p ≤ 8008)
+module _ (p q : List ℕ) (m : ℕ) (asked : judge_request_of q ≡ Ok m) (long : length p ≤ 8008)
     (d : Verdict) (os : List ℕ) (w : Course p (bags_of q) d os) where
   abbrev g : Bags
   g = bags_of q

@@ -15,7 +15,7 @@ use Rattle.meaning.specs.declared.Verdict.TheVariants.{Deny}
 use Rattle.layout.specs.Entry.{lawful}
 use Rattle.moves.specs.Core.{core}
 use Rattle.stacks.specs.Machine.{copies}
-use Rattle.layout.specs.Layout.{words_of, test_word, fetch, entry_of, entry_by, compare_by, test_of, found_by, found_code, unpack_of, pack_of, truth_by, cause_by, verdict_by, effect_by, algorithm_by, acc_by, rank_by, frame_of, frame_word}
+use Rattle.layout.specs.Layout.{words_of, test_word, fetch, entry_of, entry_by, compare_by, test_of, found_by, found_code, unpack_of, pack_of, frame_of, frame_word}
 use Rattle.programme.specs.Step.{may_step, step_of, is_over, after, head_after, seen, fresh_of}
 use Rattle.run.specs.Run.{run_of}
 use Rattle.code.specs.Code.{code_conjunction, code_section, code_target, code_condition, code_conditions, code_when, code_rule, code_rules, code_obligations, code_body, code_within, code_shell, code_tree, code_trees, owns, obligations, obligations_all, code_top, programme, translated, in_numbers}
@@ -48,6 +48,6 @@ ran : ((run_of page (bags_of (lines (is40 ∷ []))) 20 fresh_of).ok ≡ true) ×
     × ((unpack_of (run_of page (bags_of (lines (is40 ∷ []))) 20 fresh_of).state.head).denies ≡ 1)
     × (get_or (run_of page (bags_of (lines (is40 ∷ []))) 20 fresh_of).state.places 0 7 ≡ 18)
 unfolding bytes lines is40 page
-    run_of is_over may_step step_of after head_after seen core lawful copies fetch entry_of entry_by compare_by test_of found_by found_code unpack_of pack_of truth_by cause_by verdict_by effect_by algorithm_by acc_by rank_by frame_of frame_word fresh_of
+    run_of is_over may_step step_of after head_after seen core lawful copies fetch entry_of entry_by compare_by test_of found_by found_code unpack_of pack_of frame_of frame_word fresh_of
     bags_of bag_from big_of comparison_of gives key_by function_of value_of signed64 finite_of
 ran = (refl, refl, refl, refl, refl, refl)

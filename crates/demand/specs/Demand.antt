@@ -1,15 +1,13 @@
 -- Demand 3: every accepted book translates into a programme that runs without the book, its steps dealt out over ticks in any amounts. `proofs/Demand.antt`
 -- proves it. Assumes nothing.
-use Rattle.std.specs.Prelude.{ℕ, ◌+◌, ◌-◌, ◌*◌, ◌≤◌, ◌<◌, ◌≡◌, List, [], ◌∷◌, ◌++◌, ltb, length, replicate}
+use Rattle.std.specs.Prelude.{ℕ, ◌+◌, ◌-◌, ◌*◌, ◌≤◌, ◌<◌, ◌≡◌, List, [], ◌∷◌, ◌++◌, ltb, length, replicate, Ok}
 use Rattle.record.specs.Bytes.{Bytes}
 use Rattle.record.specs.Choose.{if}
 use Rattle.meaning.specs.Meaning.{Bags, decides, obliges}
 use Rattle.meaning.specs.Reading.{book_of, bags_of}
 use Rattle.meaning.specs.declared.Verdict.{Verdict}
-use Rattle.judge.specs.Judge.{judge_of}
+use Rattle.judge.specs.Judge.{judge_of, accepted_with}
 use Rattle.judge.specs.Request.{judge_request_of}
-use Rattle.judge.specs.declared.Judged.TheVariants as book
-use Rattle.judge.specs.declared.JudgedRequest.TheVariants as request
 use Rattle.layout.specs.declared.State.{State}
 use Rattle.programme.specs.Step.{fresh_of}
 use Rattle.run.specs.Tick.{Ticked, tick_of}
@@ -20,7 +18,7 @@ use Rattle.layout.specs.Room.{room_p}
 
 -- it has at most 4n entries
 abbrev pub FewEntries : Type 0
-FewEntries = (b : List ℕ) (n o : ℕ) → Bytes b → judge_of b ≡ book.Accepted n o → length (programme_of b) ≤ 4 * n
+FewEntries = (b : List ℕ) (n o : ℕ) → Bytes b → judge_of b ≡ accepted_with n o → length (programme_of b) ≤ 4 * n
 
 -- a turn: a budget, and an output to fill
 pub record Turn : Type 0 where
@@ -71,5 +69,5 @@ pub record Runs (p q : List ℕ) (d : Verdict) (os : List ℕ) : Type 0 where
 -- for every accepted book and every accepted request, with the decision, code and obligations of the meaning
 abbrev pub RunsRight : Type 0
 RunsRight =
-    (b q : List ℕ) (n o m : ℕ) → Bytes b → judge_of b ≡ book.Accepted n o → judge_request_of q ≡ request.Accepted m
+    (b q : List ℕ) (n o m : ℕ) → Bytes b → judge_of b ≡ accepted_with n o → judge_request_of q ≡ Ok m
     → Runs (programme_of b) q (decides (bags_of q) (book_of b)) (obliges (bags_of q) (book_of b))

@@ -3,11 +3,9 @@ use Rattle.std.specs.Prelude.{ℕ, ◌+◌, ◌*◌, ◌≡◌, ◌⊎◌, true,
 use Rattle.record.specs.Bytes.{size, Bytes, big_of}
 use Rattle.meaning.specs.Meaning.{Bags}
 use Rattle.meaning.specs.Reading.{is_kind}
-use Rattle.judge.specs.Judge.{judge_of}
-use Rattle.judge.specs.declared.Judged.TheVariants as book
+use Rattle.judge.specs.Judge.{judge_of, accepted_with}
 use Rattle.programme.specs.Step.{fresh_of}
-use Rattle.run.specs.Run.{run_of}
-use Rattle.run.specs.declared.kinds.Ran.{Ran}
+use Rattle.run.specs.Run.{run_of, Ran}
 use Rattle.translator.specs.Translate.{programme_of}
 use Rattle.promises.specs.Steps.{Met}
 
@@ -24,6 +22,6 @@ HoldsMet b p g r v = (v ≡ 0) ⊎ (Met p g fresh_of r.steps v × Numbers b v)
 -- in a translated programme's own run the obligation places hold only zeros and the numbers of obligation records met so far
 abbrev pub OnlyRecords : Type 0
 OnlyRecords =
-    (b : List ℕ) (n o : ℕ) → Bytes b → judge_of b ≡ book.Accepted n o → (g : Bags) (budget k : ℕ)
+    (b : List ℕ) (n o : ℕ) → Bytes b → judge_of b ≡ accepted_with n o → (g : Bags) (budget k : ℕ)
     → let r = run_of (programme_of b) g budget fresh_of in
     HoldsMet b (programme_of b) g r (get_or r.state.places k 0)

@@ -4,24 +4,14 @@ use Prim.Native.Nat.{ℕ, zero, suc, ◌+◌, ◌-◌, ◌≤◌, ◌<◌}
 use mathlib.Core.Path.{◌≡◌, refl, sym, ◌∙◌}
 use mathlib.Core.List.{List}
 use lib.ListN.{length, get_or, set, length-set}
+use mathlib.Core.Logic.{∥∥₁_elim, ∥∥₁_map}
+use native.Mathlib.Nat.{ℕ_set}
+use native.Mathlib.Bridge.{le_prop}
 use lib.Seq.{get_or-set_same, get_or-set_other}
 use native.Mathlib.Omega.{arith}
 use Rattle.record.specs.Forest.{Forest, none, node, span_in, forest}
 use Rattle.record.proofs.Forests.{span_pos, span_le, forest_none, forest_more, forest_step}
-use Rattle.elders.specs.Links.{last_of, LinkedFrom, Linked, Kept, Below}
-
--- record `at` ends at `next`, in a row from i to stop; what is below it is linked
-pub record Piece (b t : List ℕ) (i stop next at : ℕ) : Type 0 where
-  pub from : i ≤ at
-  pub upto : at < next
-  pub inside : next ≤ stop
-  pub spans : next - at ≡ span_in b at (stop - at)
-  pub below : Linked t (forest b (at + 1) (next - at - 1))
-
--- whole records from i to `next`, of which `at` is the last: by the table one comes from each to the one before
-pub data Before (b t : List ℕ) (i stop : ℕ) : ℕ → ℕ → Type 0 where
-  begun : (at : ℕ) → Before b t i stop i at
-  ended : (next at : ℕ) → Piece b t i stop next at → Before b t i stop at (get_or t at 0) → Before b t i stop next at
+use Rattle.elders.specs.Links.{last_of, LinkedFrom, Linked, Linked-prop, Kept, Below, Piece, Before, begun, ended}
 
 pub linked_at : {b t : List ℕ} {i stop next at : ℕ} → Piece b t i stop next at → Linked t (forest b (at + 1) (next - (at + 1)))
 linked_at {b} {t} {i} {stop} {next} {at} p = let e : next - at - 1 ≡ next - (at + 1) = omega arith in rw e at p.below
@@ -38,6 +28,23 @@ turn (ended next at p q) h = q
 pub first_le : {b t : List ℕ} {i stop next at : ℕ} → Before b t i stop next at → i ≤ next
 first_le (begun at) = omega arith
 first_le (ended next at p q) = omega (arith, p.from, p.upto)
+
+-- the same of a row that is known to be walked
+module _ {b t : List ℕ} {i stop next at : ℕ} (w : ∥ Before b t i stop next at ∥₁) (h : i < next) where
+  pub piece_in : Piece b t i stop next at
+  piece_in = record {
+    from = ∥∥₁_elim w le_prop (λ q. (piece_of q h).from);
+    upto = ∥∥₁_elim w le_prop (λ q. (piece_of q h).upto);
+    inside = ∥∥₁_elim w le_prop (λ q. (piece_of q h).inside);
+    spans = ∥∥₁_elim w (ℕ_set _ _) (λ q. (piece_of q h).spans);
+    below = ∥∥₁_elim w (Linked-prop _ _) (λ q. (piece_of q h).below);
+  }
+
+  pub turned : {a : ℕ} → a ≡ get_or t at 0 → ∥ Before b t i stop at a ∥₁
+  turned e = rw e (∥∥₁_map w (λ q. turn q h))
+
+pub first_in : {b t : List ℕ} {i stop next at : ℕ} → ∥ Before b t i stop next at ∥₁ → i ≤ next
+first_in w = ∥∥₁_elim w le_prop (λ q. first_le q)
 
 -- a forest by its first record and where that ends
 pub forest_next : (b : List ℕ) (at next stop : ℕ) → at < next → next ≤ stop → next - at ≡ span_in b at (stop - at)
@@ -81,8 +88,8 @@ module _ (b t : List ℕ) (i stop : ℕ) where
       let r₁ : LinkedFrom t at (node next (forest b (next + 1) (next + s - next - 1)) (forest b (next + s) (stop - (next + s)))) = rw w at r in
       let q₁ : Before b t i stop next (get_or t next 0) = rw r₁.0 q in
       let piece : Piece b t i stop (next + s) next
-      = record { from = first_le q; upto = omega (arith, p); inside = omega (arith, l, h); spans = omega arith; below = r₁.1 } in
-      rw w (walk fuel (suc left - s) (next + s) next (omega (arith, p, f)) (omega (arith, l, h)) (ended (next + s) next piece q₁) r₁.2)
+      = record { from = first_le q; upto = omega (arith, p); inside = omega (arith, l, h); spans = omega arith; below = r₁.1.0 } in
+      rw w (walk fuel (suc left - s) (next + s) next (omega (arith, p, f)) (omega (arith, l, h)) (ended (next + s) next piece q₁) r₁.1.1)
 
   pub before_of : i < stop → Linked t (forest b i (stop - i)) → Before b t i stop stop (get_or t i 0)
   unfolding Linked LinkedFrom last_of
@@ -108,8 +115,10 @@ row_same b t u (suc fuel) p i (suc l) f h r =
     let r₁ : LinkedFrom t p (node i (forest b (i + 1) (s - 1)) (forest b (i + s) (suc l - s))) = rw w at r in
     rw w (
       h i (omega arith) (omega arith) ∙ r₁.0,
-      row_same b t u fuel (last_of 0 (forest b (i + 1) (s - 1))) (i + 1) (s - 1) (omega (arith, f, m, q)) (λ k g j. h k (omega (arith, g)) (omega (arith, j, m, q))) r₁.1,
-      row_same b t u fuel i (i + s) (suc l - s) (omega (arith, f, m, q)) (λ k g j. h k (omega (arith, g)) (omega (arith, j, m, q))) r₁.2,
+      (
+        row_same b t u fuel (last_of 0 (forest b (i + 1) (s - 1))) (i + 1) (s - 1) (omega (arith, f, m, q)) (λ k g j. h k (omega (arith, g)) (omega (arith, j, m, q))) r₁.1.0,
+        row_same b t u fuel i (i + s) (suc l - s) (omega (arith, f, m, q)) (λ k g j. h k (omega (arith, g)) (omega (arith, j, m, q))) r₁.1.1,
+      ),
     )
 
 linked_same : (b t u : List ℕ) (i left : ℕ) → ((k : ℕ) → i ≤ k → k < i + left → get_or u k 0 ≡ get_or t k 0) → Linked t (forest b i left) → Linked u (forest b i left)
@@ -141,10 +150,10 @@ module _ (b t : List ℕ) (i stop : ℕ) where
   unwalk next at (begun a) h r e = absurd (omega (arith, h))
   unwalk next at (ended n a p (begun c)) h r e =
       let w = forest_next b at next stop p.upto p.inside p.spans in
-      rw w (sym e, p.below, r)
+      rw w (sym e, (p.below, r))
   unwalk next at (ended n a p (ended m c q s)) h r e =
       let w = forest_next b at next stop p.upto p.inside p.spans in
-      let r₁ : LinkedFrom t (get_or t at 0) (forest b at (stop - at)) = rw w (refl, p.below, r) in
+      let r₁ : LinkedFrom t (get_or t at 0) (forest b at (stop - at)) = rw w (refl, (p.below, r)) in
       let e₁ : last_of (get_or t at 0) (forest b at (stop - at)) ≡ get_or t i 0 = rw w e in
       unwalk at (get_or t at 0) (ended m c q s) (omega (arith, q.from, q.upto)) r₁ e₁
 
@@ -189,15 +198,7 @@ module _ {b : List ℕ} {from stop : ℕ} {old t : List ℕ} {i last s : ℕ} (g
         late = omega (arith, a);
       }
 
-  -- a record with none below it
-  pub linking_one : {v : ℕ} → v ≡ last → i < length t → i + s ≤ i + 1 → Linking b from stop old (set t i v) (i + s) i
-  unfolding Linked
-  linking_one {v} d m n =
-      let a = next_lt in
-      linking_turn (set t i v) (length-set t i v) (λ k x. get_or-set_other t i k v 0 (λ z. omega (arith, x, z))) (get_or-set_same t i v 0 m ∙ d)
-      (λ k x. get_or-set_other t i k v 0 (λ z. omega (arith, x, z, a))) (row_none b (set t i v) _ (i + 1) (i + s - i - 1) (omega (arith, n)))
-
-  -- a record with others below it, which were linked then
+  -- what is below it was linked then
   pub linking_more : {v : ℕ} {u : List ℕ} → v ≡ last → i < length t → Linked u (forest b (i + 1) (i + s - (i + 1))) → Kept (i + 1) (i + s) (set t i v) u → Linking b from stop old u (i + s) i
   linking_more {v} {u} d m w y =
       let a = next_lt in
@@ -228,7 +229,7 @@ linking_none b t from stop e = (row_none b t _ from (stop - from) (omega (arith,
 row_below : (t : List ℕ) (p : ℕ) (f : Forest) → LinkedFrom t p f → Below t f
 unfolding LinkedFrom Below Linked
 row_below t p none r = tt
-row_below t p (node i kids rest) r = (r.1, row_below t i rest r.2)
+row_below t p (node i kids rest) r = (r.1.0, row_below t i rest r.1.1)
 
 pub linked_below : (b t : List ℕ) (i stop : ℕ) → Linked t (forest b i (stop - i)) → Below t (forest b i (stop - i))
 unfolding Linked
@@ -245,3 +246,18 @@ module _ (b t : List ℕ) (i stop s : ℕ) (h : i < stop) (e : s ≡ span_in b i
   pub below_rest : Below t (forest b i (stop - i)) → Below t (forest b (i + s) (stop - (i + s)))
   unfolding Below
   below_rest r = let r₁ = rw (forest_first b i stop h e) at r in r₁.1
+
+-- a row that nothing was walked of yet
+pub row_of : (b t : List ℕ) (i stop : ℕ) {at : ℕ} → i < stop → Linked t (forest b i (stop - i)) → at ≡ get_or t i 0 → ∥ Before b t i stop stop at ∥₁
+row_of b t i stop {at} h r e = let before : Before b t i stop stop at = rw e (before_of b t i stop h r) in ∣ before ∣₁
+
+pub row_empty : (b t : List ℕ) (i stop at : ℕ) → i ≡ stop → ∥ Before b t i stop stop at ∥₁
+row_empty b t i stop at e = let none : Before b t i stop stop at = rw (← e) (begun at) in ∣ none ∣₁
+
+-- where the first record of a row ends
+module _ (b : List ℕ) (i stop : ℕ) {s : ℕ} (h : i < stop) (e : s ≡ span_in b i (stop - i)) where
+  pub first_some : i < i + s
+  first_some = let p = span_pos b i (stop - i) (omega (arith, h)) in omega (arith, p, e)
+
+  pub first_upto : i + s ≤ stop
+  first_upto = let p = span_le b i (stop - i) in omega (arith, p, e, h)

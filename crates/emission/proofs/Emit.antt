@@ -23,7 +23,7 @@ use Rattle.meaning.specs.declared.Test.{Test}
 use Rattle.meaning.specs.declared.Effect.{Effect}
 use Rattle.meaning.specs.declared.Effect.TheVariants.{Permits, Denies}
 use Rattle.meaning.specs.declared.Algorithm.{Algorithm}
-use Rattle.meaning.specs.declared.Algorithm.TheVariants.{RulesDeny, RulesPermit, First, PoliciesDeny, PoliciesPermit, OnlyOne}
+use Rattle.meaning.specs.declared.Algorithm.TheVariants.{First}
 use Rattle.layout.specs.Entry.{Entry, begin, match, further, opens, compare, close, rule, enter, applies, conclude, oblige, leave, finish, extra}
 use Rattle.layout.specs.Layout.{bit_of, effect_code, op_code, algorithm_code, test_word, words_of}
 use Rattle.layout.specs.declared.Op.{Op}
@@ -386,28 +386,12 @@ unfolding words_of
 matched m c l i j x {t} {u} e f g h k = rw (← e) (entry (match t m c l i j x) (rw f refl) refl (wrote_both (wrote_both g h) k))
 
 -- below an only-one set
-only_code : (a : Algorithm) → algorithm_code a ≡ algorithm_code OnlyOne → is_only a ≡ true
-only_code First e = absurd (omega (arith, e))
-only_code RulesDeny e = absurd (omega (arith, e))
-only_code RulesPermit e = absurd (omega (arith, e))
-only_code PoliciesDeny e = absurd (omega (arith, e))
-only_code PoliciesPermit e = absurd (omega (arith, e))
-only_code OnlyOne e = refl
+module _ (up n : ℕ) {a : Algorithm} {x : Bool} (e : a ≡ over_policies (policies_by up)) (f : x ≡ is_only a) where
+  pub applies_one : x ≡ true → code_applies (is_only (over_policies (policies_by up))) n ≡ applies n ∷ []
+  applies_one h = rw (← e, ← f, h) refl
 
-other_code : (a : Algorithm) → (algorithm_code a ≡ algorithm_code OnlyOne → ⊥) → is_only a ≡ false
-other_code First e = refl
-other_code RulesDeny e = refl
-other_code RulesPermit e = refl
-other_code PoliciesDeny e = refl
-other_code PoliciesPermit e = refl
-other_code OnlyOne e = absurd (e refl)
-
-module _ (up n : ℕ) {a : Algorithm} {k m : ℕ} (e : k ≡ algorithm_code a) (f : a ≡ over_policies (policies_by up)) (g : m ≡ algorithm_code OnlyOne) where
-  pub applies_one : k ≡ m → code_applies (is_only (over_policies (policies_by up))) n ≡ applies n ∷ []
-  applies_one h = rw (← f, only_code a (sym e ∙ h ∙ g)) refl
-
-  pub applies_none : (k ≡ m → ⊥) → code_applies (is_only (over_policies (policies_by up))) n ≡ []
-  applies_none h = rw (← f, other_code a (λ z. h (e ∙ z ∙ sym g))) refl
+  pub applies_none : x ≡ false → code_applies (is_only (over_policies (policies_by up))) n ≡ []
+  applies_none h = rw (← e, ← f, h) refl
 
 -- the algorithm of a set, of a policy
 module _ (b : List ℕ) (i : ℕ) {k c : ℕ} {a : Algorithm} (e : k ≡ byte_of b i 0) (f : c ≡ byte_of b i 1) where

@@ -4,13 +4,16 @@ use mathlib.Core.Path.{◌≡◌, refl, sym, ap, ◌∙◌}
 use mathlib.Core.Bool.{Bool, true, false}
 use mathlib.Core.List.{List, [], ◌∷◌, ◌++◌, append-nil}
 use lib.Dec.{eqb}
-use lib.ListN.{length, get_or, replicate, length-replicate}
+use mir.Val.{bool_byte}
+use lib.ListN.{length, replicate}
 use lib.Seq.{length-sets}
+use mathlib.Core.Logic.{∥∥₁_elim}
+use native.Mathlib.Bridge.{le_prop}
 use native.Mathlib.Omega.{arith}
 use borrow.Author.Tests.{eq-eqb, ne_eqb, eqb-true, eqb-false}
 use Rattle.record.specs.Bytes.{size, byte_of, big_of}
 use Rattle.record.specs.Forest.{Forest, none, node, span_in, forest}
-use Rattle.record.proofs.Forests.{forest_none, forest_step, span_pos, span_le}
+use Rattle.record.proofs.Forests.{forest_none, forest_step}
 use Rattle.meaning.specs.Meaning.{over_policies, is_only}
 use Rattle.meaning.specs.Reading.{match_at, comparison_at, row_of, children_at, conjunction_at, section_at, conditions_in, effect_of, rules_in, obligations_in, trees_in, policies_by, is_kind, is_party, choice_at, book_of}
 use Rattle.record.specs.Choose.{if}
@@ -20,10 +23,15 @@ use Rattle.layout.specs.Entry.{Entry, begin, match, further, opens, compare, clo
 use Rattle.layout.specs.declared.Op.TheVariants.{Not}
 use Rattle.layout.specs.Layout.{effect_code}
 use Rattle.code.specs.Code.{code_conjunction, code_section, code_condition, code_rules, code_obligations, code_tree, code_applies, in_numbers, translated}
-use Rattle.emission.specs.Emit.{Emitted, matches_in, matches_code, conjunction_code, conjunctions_in, conjunctions_code, section_code, target_code, condition_code, conditions_code, when_code, rule_code, rules_code, obligations_code, tree_code, trees_code, algorithm_at, body_code, within_code, due_in}
-use Rattle.elders.specs.Links.{LinkedFrom, Linked, Below}
-use Rattle.elders.proofs.Links.{Piece, Before, begun, ended, piece_of, turn, first_le, forest_next, forest_first, before_of, below_rest}
-use Rattle.emission.proofs.Emit.{Splits, Three, follows, behind, behind_fits, before_fits, nothing, differs, is_kind_lem, no_kind, op_at, target_more, condition_bare, condition_not, condition_parts, conditions_none, when_none, when_found, when_other, rule_parts, rules_none, obligations_none, body_parts, body_set, body_policy, within_parts, trees_none, due_none, due_own, due_else, due_flat, due_party, due_other, programme_parts}
+use Rattle.emission.specs.Emit.{Emitted, matches_in, matches_code, conjunction_code, conjunctions_in, conjunctions_code, section_code, target_code, condition_code, conditions_code, when_code, rule_code, rules_code, obligations_code, tree_code, trees_code, algorithm_at, body_code, within_code, due_in, in_rest}
+use Rattle.record.specs.Siblings.{Passes}
+use Rattle.record.specs.declared.siblings.Siblings.{Siblings}
+use Rattle.elders.specs.Links.{Piece, Before, begun, ended, Taken, First}
+use Rattle.elders.specs.declared.Node.{Node}
+use Rattle.elders.specs.declared.Row.{Row}
+use Rattle.elders.specs.declared.Rest.{Rest}
+use Rattle.elders.proofs.Links.{first_in, forest_next}
+use Rattle.emission.proofs.Emit.{Splits, Three, follows, behind, behind_fits, before_fits, as_is, nothing, differs, is_kind_lem, no_kind, op_at, target_more, target_other, condition_bare, condition_not, condition_parts, conditions_none, when_none, when_found, when_other, rule_parts, rules_none, obligations_none, body_parts, body_set, body_policy, within_parts, trees_none, due_none, due_own, due_else, due_flat, due_party, due_other, programme_parts}
 
 -- nothing is in a forest
 abbrev pub empty : Forest → Bool
@@ -52,62 +60,60 @@ longer {rest = rest} false more same = rw (same refl) (omega arith)
 
 -- a code that only grows from the last record to the first
 module _ {b t : List ℕ} {i stop : ℕ} (code : ℕ → List Entry) (grows : (next at : ℕ) → Piece b t i stop next at → length (code next) ≤ length (code at)) where
-  pub along : {next at : ℕ} → Before b t i stop next at → length (code next) ≤ length (code i)
+  along : {next at : ℕ} → Before b t i stop next at → length (code next) ≤ length (code i)
   along (begun at) = omega arith
   along (ended next at p q) = let h = along q in let k = grows next at p in omega (arith, h, k)
+
+  pub along_row : {next at : ℕ} → ∥ Before b t i stop next at ∥₁ → length (code next) ≤ length (code i)
+  along_row w = ∥∥₁_elim w le_prop (λ q. along q)
 
 pub emitted_long : {code : List Entry} {end start : ℕ} {o o₁ : List ℕ} → Emitted code end o o₁ start → length o₁ ≡ length o
 emitted_long {code} {end} {start} {o} f = ap (λ (l : List ℕ). length l) f.wrote ∙ length-sets o start (in_numbers code)
 
--- a loop over a row from i to stop that has written the code from `next` on
-pub record Going (b t : List ℕ) (i stop next at : ℕ) (code : List Entry) (end : ℕ) (o o₁ : List ℕ) (start : ℕ) : Type 0 where
-  pub row : Before b t i stop next at
-  pub low : next ≤ stop
+-- a loop over the children of a record that has written the code of those behind the ones that are left
+pub record Going (parent : Node) (row : Row) (code : List Entry) (end : ℕ) (o o₁ : List ℕ) (start : ℕ) : Type 0 where
+  pub same : row.parent ≡ parent
   pub done : Emitted code end o o₁ start
   pub long : length o₁ ≡ length o
 
--- the record that it comes to stands before the one behind, and within the row
-module _ {b t : List ℕ} {i stop next at : ℕ} {code : List Entry} {end : ℕ} {o o₁ : List ℕ} {start : ℕ} (g : Going b t i stop next at code end o o₁ start) (h : i < next) where
-  pub go_less : at < next
-  go_less = (piece_of g.row h).upto
-
-  pub go_below : {m : ℕ} → stop ≤ m → at < m
-  go_below l = let p = piece_of g.row h in omega (arith, p.upto, p.inside, l)
-
-  pub go_bytes : {m : ℕ} → stop * size ≤ m → (at + 1) * size ≤ m
-  go_bytes l = let p = piece_of g.row h in omega (arith, p.upto, p.inside, l)
+-- a child that was taken, which ends at `next`
+abbrev pub Child : Node → ℕ → ℕ → List ℕ → List ℕ → ℕ → ℕ → Type 0
+Child parent next at book elders place stops = Taken parent.book.now parent.elders.now (parent.at + 1) parent.stop next at book elders place stops
 
 -- the loop over any code of a row
-module _ {b t : List ℕ} {i stop : ℕ} (code : ℕ → List Entry) where
-  pub go_begin : (end at : ℕ) (o : List ℕ) → code stop ≡ [] → i < stop → Linked t (forest b i (stop - i)) → at ≡ get_or t i 0 → Going b t i stop stop at (code stop) end o o end
-  go_begin end at o z h r e = record { row = rw e (before_of b t i stop h r); low = omega arith; done = nothing z; long = refl }
+pub go_begin : {parent : Node} {row : Row} (code : ℕ → List Entry) (end : ℕ) (o : List ℕ) → code parent.stop ≡ [] → (row.parent ≡ parent) × (row.next ≡ parent.stop)
+    → Going parent row (code row.next) end o o end
+go_begin code end o z e = record { same = e.0; done = nothing (rw e.1 z); long = refl }
 
-  module _ {next at end start : ℕ} {o o₁ : List ℕ} (g : Going b t i stop next at (code next) end o o₁ start) where
+module _ {parent : Node} {row : Row} (code : ℕ → List Entry) {end start : ℕ} {o o₁ : List ℕ} (g : Going parent row (code row.next) end o o₁ start) where
+  pub go_end : row.next ≤ row.parent.at + 1 → Emitted (code (parent.at + 1)) end o o₁ start
+  go_end h =
+      let k = first_in row.walked in
+      let e : row.next ≡ row.parent.at + 1 = omega (arith, h, k) in
+      let f : row.next ≡ parent.at + 1 = rw g.same at e in
+      rw f at g.done
+
+  module _ {at place stops : ℕ} {book elders : List ℕ} (p : Child row.parent row.next at book elders place stops) where
+    kid : Child parent row.next at book elders place stops
+    kid = rw g.same at p
+
     -- a record with code: what it puts in front of what is behind it
     abbrev Prepends : List Entry → Type 0
-    Prepends xs = Piece b t i stop next at → end - start ≡ length (code next) → Splits (code at) xs (code next)
+    Prepends xs = Child parent row.next at book elders place stops → end - start ≡ length (code row.next) → Splits (code at) xs (code row.next)
 
-    pub go_room : {xs : List Entry} → ((n a : ℕ) → Piece b t i stop n a → length (code n) ≤ length (code a)) → i < next → length (code i) ≤ end → Prepends xs → length xs ≤ start
-    go_room s h r z =
-        let k = along code s (turn g.row h) in
-        before_fits (z (piece_of g.row h) (behind g.done)) (omega (arith, k, r)) g.done
+    pub go_room : {xs : List Entry} → ((n a : ℕ) → Piece parent.book.now parent.elders.now (parent.at + 1) parent.stop n a → length (code n) ≤ length (code a))
+        → length (code (parent.at + 1)) ≤ end → Prepends xs → length xs ≤ start
+    go_room s r z =
+        let k = along_row code s kid.rest in
+        before_fits (z kid (behind g.done)) (omega (arith, k, r)) g.done
 
-    pub go_again : (a start₂ : ℕ) {xs : List Entry} {o₂ : List ℕ} → i < next → Prepends xs → Emitted xs start o₁ o₂ start₂ → a ≡ get_or t at 0
-        → Going b t i stop at a (code at) end o o₂ start₂
-    go_again a start₂ h s w d =
-        let p = piece_of g.row h in
-        let q : Before b t i stop at a = rw d (turn g.row h) in
-        record { row = q; low = omega (arith, p.upto, p.inside); done = follows (s p (behind g.done)) g.done w; long = emitted_long w ∙ g.long }
+    module _ {row₁ : Row} (e : row₁.parent ≡ row.parent) where
+      pub go_again : {xs : List Entry} {start₂ : ℕ} {o₂ : List ℕ} → Prepends xs → Emitted xs start o₁ o₂ start₂ → Going parent row₁ (code at) end o o₂ start₂
+      go_again s w = record { same = e ∙ g.same; done = follows (s kid (behind g.done)) g.done w; long = emitted_long w ∙ g.long }
 
-    -- a record that has no code
-    pub go_skip : (a : ℕ) → i < next → (Piece b t i stop next at → code at ≡ code next) → a ≡ get_or t at 0 → Going b t i stop at a (code at) end o o₁ start
-    go_skip a h s d =
-        let p = piece_of g.row h in
-        let q : Before b t i stop at a = rw d (turn g.row h) in
-        record { row = q; low = omega (arith, p.upto, p.inside); done = rw (s p) g.done; long = g.long }
-
-    pub go_end : next ≤ i → Emitted (code i) end o o₁ start
-    go_end h = let k = first_le g.row in let e : next ≡ i = omega (arith, h, k) in rw e at g.done
+      -- a record that has no code
+      pub go_skip : (Child parent row.next at book elders place stops → code at ≡ code row.next) → Going parent row₁ (code at) end o o₁ start
+      go_skip s = record { same = e ∙ g.same; done = rw (s kid) g.done; long = g.long }
 
 -- matches
 match_before : (b : List ℕ) (at : ℕ) (kids rest : Forest) (c l : Bool) (n x k : ℕ) → k ≡ length (matches_in b rest c l n x)
@@ -128,13 +134,17 @@ module _ (b : List ℕ) (stop : ℕ) (c l : Bool) (n x : ℕ) where
   matches_stop = rw (forest_none b stop (stop - stop) (omega arith)) refl
 
   module _ {t : List ℕ} {i : ℕ} where
-    pub matches_turn : {next at : ℕ} → Piece b t i stop next at → (k : ℕ) (m : Bool) → k ≡ length (matches_to next) → m ≡ eqb next stop
+    matches_step : {next at : ℕ} → Piece b t i stop next at → (k : ℕ) (m : Bool) → k ≡ length (matches_to next) → m ≡ eqb next stop
         → Splits (matches_to at) (match (match_at b at) m c l k (k + n) (k + x) ∷ further ∷ further ∷ []) (matches_to next)
-    matches_turn {next} {at} p k m e f =
+    matches_step {next} {at} p k m e f =
         record { joined = rw (f, row_is p, match_before b at (forest b (at + 1) (next - at - 1)) (forest b next (stop - next)) c l n x k e, empty_at b next stop p.inside) refl }
 
+    pub matches_turn : {next at place stops : ℕ} {book elders : List ℕ} → Taken b t i stop next at book elders place stops → (k : ℕ) → k ≡ length (matches_to next)
+        → Splits (matches_to at) (match (match_at book place) (eqb stops stop) c l k (k + n) (k + x) ∷ further ∷ further ∷ []) (matches_to next)
+    matches_turn p k e = rw (p.same_book, p.same_place, p.same_end) (matches_step p.piece k _ e refl)
+
     pub matches_grow : (next at : ℕ) → Piece b t i stop next at → length (matches_to next) ≤ length (matches_to at)
-    matches_grow next at p = behind_fits (length (matches_to at)) (matches_turn p (length (matches_to next)) (eqb next stop) refl refl) (omega arith)
+    matches_grow next at p = behind_fits (length (matches_to at)) (matches_step p (length (matches_to next)) (eqb next stop) refl refl) (omega arith)
 
 -- conjunctions
 module _ (b : List ℕ) (i stop : ℕ) (c l : Bool) (n x : ℕ) where
@@ -164,14 +174,18 @@ module _ (b : List ℕ) (stop : ℕ) (l : Bool) (x : ℕ) where
   conjunctions_stop = rw (forest_none b stop (stop - stop) (omega arith)) refl
 
   module _ {t : List ℕ} {i : ℕ} where
-    pub conjunctions_turn : {next at : ℕ} → Piece b t i stop next at → (k : ℕ) (m : Bool) → k ≡ length (conjunctions_to next) → m ≡ eqb next stop
+    conjunctions_step : {next at : ℕ} → Piece b t i stop next at → (k : ℕ) (m : Bool) → k ≡ length (conjunctions_to next) → m ≡ eqb next stop
         → Splits (conjunctions_to at) (conjunction_code b at (next - at) m l k (k + x)) (conjunctions_to next)
     unfolding conjunction_code
-    conjunctions_turn {next} {at} p k m e f =
+    conjunctions_step {next} {at} p k m e f =
         record { joined = rw (f, row_is p, conjunction_before b at (forest b (at + 1) (next - at - 1)) (forest b next (stop - next)) l x k e, empty_at b next stop p.inside) refl }
 
+    pub conjunctions_turn : {next at place stops : ℕ} {book elders : List ℕ} → Taken b t i stop next at book elders place stops → (k : ℕ) → k ≡ length (conjunctions_to next)
+        → Splits (conjunctions_to at) (conjunction_code book place (stops - place) (eqb stops stop) l k (k + x)) (conjunctions_to next)
+    conjunctions_turn p k e = rw (p.same_book, p.same_place, p.same_end) (conjunctions_step p.piece k _ e refl)
+
     pub conjunctions_grow : (next at : ℕ) → Piece b t i stop next at → length (conjunctions_to next) ≤ length (conjunctions_to at)
-    conjunctions_grow next at p = behind_fits (length (conjunctions_to at)) (conjunctions_turn p (length (conjunctions_to next)) (eqb next stop) refl refl) (omega arith)
+    conjunctions_grow next at p = behind_fits (length (conjunctions_to at)) (conjunctions_step p (length (conjunctions_to next)) (eqb next stop) refl refl) (omega arith)
 
 -- sections and targets
 module _ (b : List ℕ) (i stop : ℕ) (l : Bool) (x : ℕ) where
@@ -184,17 +198,48 @@ module _ (b : List ℕ) (i stop : ℕ) (l : Bool) (x : ℕ) where
   section_more h f =
       rw (kids_left i stop, forest_step b (i + 1) (stop - (i + 1)) (omega (arith, h, f))) refl
 
-module _ (b : List ℕ) (i stop s x : ℕ) (h : i < stop) (k : byte_of b i 0 ≡ 4) (e : s ≡ span_in b i (stop - i)) where
-  pub target_next : (mid end : ℕ) → mid + length (target_code b (i + s) (stop - (i + s)) x) ≡ end
-      → Splits (target_code b i (stop - i) x) (section_code b i (i + s - i) (eqb mid end) (end - mid + x)) (target_code b (i + s) (stop - (i + s)) x)
-  target_next mid end f =
+module _ {b t : List ℕ} {i stop place ends : ℕ} {book elders book₁ elders₁ : List ℕ} {from upto : ℕ} (p : First b t i stop book elders place ends book₁ elders₁ from upto) where
+  -- what is left of a row, by the span of its first
+  left_is : {A : Type 0} (f : List ℕ → ℕ → ℕ → A) → f b (i + span_in b i (stop - i)) (stop - i - span_in b i (stop - i)) ≡ f book₁ from (upto - from)
+  left_is f =
+      let s : ℕ = span_in b i (stop - i) in
       let g : stop - i - s ≡ stop - (i + s) = omega arith in
-      let m : i + s - i ≡ s = omega arith in
-      let f₁ : mid + length (target_code b (i + s) (stop - i - s) x) ≡ end = rw g f in
-      rw m (rw g at (target_more b i (stop - i) s x mid end (omega (arith, h)) k e f₁))
+      rw (p.on_book, p.on_from, p.on_upto, p.spans, g) refl
 
-  pub target_rest : (end : ℕ) → length (target_code b i (stop - i) x) ≤ end → length (target_code b (i + s) (stop - (i + s)) x) ≤ end
-  target_rest end l = behind_fits end (target_next 0 (length (target_code b (i + s) (stop - (i + s)) x)) (omega arith)) l
+  -- and what is below that first, with it
+  first_is : {A : Type 0} (f : List ℕ → ℕ → ℕ → A) → f b i (span_in b i (stop - i)) ≡ f book place (ends - place)
+  first_is f =
+      let s : ℕ = span_in b i (stop - i) in
+      let g : i + s - i ≡ s = omega arith in
+      rw (p.same_book, p.same_place, p.spans, g) refl
+
+  first_byte : (k : ℕ) → byte_of book place k ≡ byte_of b i k
+  first_byte k = rw (p.same_book, p.same_place) refl
+
+  rows_left : 0 < stop - i
+  rows_left = omega (arith, p.some)
+
+  pub target_next : (x mid end : ℕ) → byte_of book place 0 ≡ 4 → mid + length (target_code book₁ from (upto - from) x) ≡ end
+      → Splits (target_code b i (stop - i) x) (section_code book place (ends - place) (eqb mid end) (end - mid + x)) (target_code book₁ from (upto - from) x)
+  target_next x mid end k f =
+      let l = left_is (λ c j left. target_code c j left x) in
+      let f₁ : mid + length (target_code b (i + span_in b i (stop - i)) (stop - i - span_in b i (stop - i)) x) ≡ end = rw l f in
+      rw (← l, ← first_is (λ c j left. section_code c j left (eqb mid end) (end - mid + x)))
+      (target_more b i (stop - i) (span_in b i (stop - i)) x mid end rows_left (sym (first_byte 0) ∙ k) refl f₁)
+
+  pub target_rest : (x end : ℕ) → byte_of book place 0 ≡ 4 → length (target_code b i (stop - i) x) ≤ end → length (target_code book₁ from (upto - from) x) ≤ end
+  target_rest x end k l = behind_fits end (target_next x 0 (length (target_code book₁ from (upto - from) x)) k (omega arith)) l
+
+  pub target_past : (x : ℕ) → (byte_of book place 0 ≡ 4 → ⊥) → target_code b i (stop - i) x ≡ []
+  target_past x k = target_other b i (stop - i) x rows_left (λ z. k (first_byte 0 ∙ z))
+
+-- the first child of a record, and that it has none
+module _ {b c t u : List ℕ} {i j stop end : ℕ} (e : (b ≡ c) × (t ≡ u) × (i ≡ j) × (stop ≡ end)) where
+  pub first_child : {book elders book₁ elders₁ : List ℕ} {place ends from upto : ℕ} → First b t i stop book elders place ends book₁ elders₁ from upto → First c u j end book elders place ends book₁ elders₁ from upto
+  first_child p = rw (e.0, e.1, e.2, e.3) at p
+
+  pub no_child : stop ≤ i → end ≤ j
+  no_child h = omega (arith, h, e.2, e.3)
 
 -- conditions
 abbrev pub conditions_to : List ℕ → ℕ → ℕ → List Entry
@@ -204,62 +249,66 @@ pub conditions_stop : (b : List ℕ) (stop : ℕ) → conditions_to b stop stop 
 conditions_stop b stop = conditions_none b stop (stop - stop) (omega arith)
 
 module _ (b : List ℕ) {t : List ℕ} {i stop : ℕ} where
-  pub conditions_turn : {next at : ℕ} → Piece b t i stop next at → (k : ℕ) → k ≡ length (conditions_to b stop next)
+  conditions_step : {next at : ℕ} → Piece b t i stop next at → (k : ℕ) → k ≡ length (conditions_to b stop next)
       → Splits (conditions_to b stop at) (condition_code b at (next - at) k) (conditions_to b stop next)
   unfolding conditions_code conditions_in condition_code code_condition
-  conditions_turn p k e = record { joined = rw (e, row_is p) refl }
+  conditions_step p k e = record { joined = rw (e, row_is p) refl }
+
+  pub conditions_turn : {next at place stops : ℕ} {book elders : List ℕ} → Taken b t i stop next at book elders place stops → (k : ℕ) → k ≡ length (conditions_to b stop next)
+      → Splits (conditions_to b stop at) (condition_code book place (stops - place) k) (conditions_to b stop next)
+  conditions_turn p k e = rw (p.same_book, p.same_place, p.same_end) (conditions_step p.piece k e)
 
   pub conditions_grow : (next at : ℕ) → Piece b t i stop next at → length (conditions_to b stop next) ≤ length (conditions_to b stop at)
-  conditions_grow next at p = behind_fits (length (conditions_to b stop at)) (conditions_turn p (length (conditions_to b stop next)) refl) (omega arith)
+  conditions_grow next at p = behind_fits (length (conditions_to b stop at)) (conditions_step p (length (conditions_to b stop next)) refl) (omega arith)
 
 -- the condition at record i, by where its parts end
 module _ (b : List ℕ) (i stop n : ℕ) (h : i < stop) where
-  pub cond_bare : byte_of b i 1 ≡ 3 → i + 1 ≡ stop → condition_code b i (stop - i) n ≡ compare (comparison_at b i) n ∷ further ∷ further ∷ []
-  cond_bare e f = condition_bare b i (stop - i) n e (omega (arith, f))
+  pub cond_bare : byte_of b i 1 ≡ 3 → stop ≤ i + 1 → condition_code b i (stop - i) n ≡ compare (comparison_at b i) n ∷ further ∷ further ∷ []
+  cond_bare e f = condition_bare b i (stop - i) n e (omega (arith, f, h))
 
-  pub cond_not : (t : ℕ) → byte_of b i 1 ≡ 3 → (i + 1 ≡ stop → ⊥) → t ≡ span_in b (i + 1) (stop - (i + 1))
-      → Three (condition_code b i (stop - i) n) (opens Not ∷ []) (condition_code b (i + 1) (i + 1 + t - (i + 1)) 0) (close n ∷ [])
-  cond_not t e f g =
-      let m : i + 1 + t - (i + 1) ≡ t = omega arith in
-      let g₁ : t ≡ span_in b (i + 1) (stop - i - 1) = rw (kids_left i stop) g in
-      rw m (condition_not b i (stop - i) t n (omega (arith, h, f)) e g₁)
+  pub cond_not : {t : List ℕ} {place ends : ℕ} {book elders book₁ elders₁ : List ℕ} {from upto : ℕ} → byte_of b i 1 ≡ 3
+      → First b t (i + 1) stop book elders place ends book₁ elders₁ from upto
+      → Three (condition_code b i (stop - i) n) (opens Not ∷ []) (condition_code book place (ends - place) 0) (close n ∷ [])
+  cond_not e p =
+      let g : span_in b (i + 1) (stop - (i + 1)) ≡ span_in b (i + 1) (stop - i - 1) = rw (kids_left i stop) refl in
+      rw (← first_is p (λ c j left. condition_code c j left 0)) (condition_not b i (stop - i) (span_in b (i + 1) (stop - (i + 1))) n (omega (arith, p.some)) e g)
 
   pub cond_parts : (byte_of b i 1 ≡ 0 → ⊥) → byte_of b i 1 ≤ 3 → (byte_of b i 1 ≡ 3 → ⊥)
       → Three (condition_code b i (stop - i) n) (opens (op_at (byte_of b i 1)) ∷ []) (conditions_code b (i + 1) (stop - (i + 1))) (close n ∷ [])
   cond_parts p q r = rw (kids_left i stop) at (condition_parts b i (stop - i) n p q r)
 
 -- the condition of a rule
-module _ (b : List ℕ) (i stop s : ℕ) (h : i < stop) (e : s ≡ span_in b i (stop - i)) where
-  pub when_skip : (byte_of b i 0 ≡ 7 → ⊥) → when_code b i (stop - i) ≡ when_code b (i + s) (stop - (i + s))
-  when_skip k =
-      let g : stop - i - s ≡ stop - (i + s) = omega arith in
-      rw g at (when_other b i (stop - i) s (omega (arith, h)) e k)
+module _ {b t : List ℕ} {i stop place ends : ℕ} {book elders book₁ elders₁ : List ℕ} {from upto : ℕ} (p : First b t i stop book elders place ends book₁ elders₁ from upto) where
+  when_skip : (byte_of book place 0 ≡ 7 → ⊥) → when_code b i (stop - i) ≡ when_code book₁ from (upto - from)
+  when_skip k = when_other b i (stop - i) _ (rows_left p) refl (λ z. k (first_byte p 0 ∙ z)) ∙ left_is p when_code
 
-  pub when_here : byte_of b i 0 ≡ 7 → when_code b i (stop - i) ≡ condition_code b i (i + s - i) 0
-  when_here k =
-      let m : i + s - i ≡ s = omega arith in
-      rw m (when_found b i (stop - i) s (omega (arith, h)) e k)
+  pub when_here : byte_of book place 0 ≡ 7 → when_code b i (stop - i) ≡ condition_code book place (ends - place) 0
+  when_here k = when_found b i (stop - i) _ (rows_left p) refl (sym (first_byte p 0) ∙ k) ∙ first_is p (λ c j left. condition_code c j left 0)
 
 pub when_stop : (b : List ℕ) (i stop : ℕ) → stop ≤ i → when_code b i (stop - i) ≡ []
 when_stop b i stop h = when_none b i (stop - i) (omega (arith, h))
 
-pub record Seeking (b t : List ℕ) (i stop at : ℕ) (o o₁ : List ℕ) : Type 0 where
-  pub same : when_code b i (stop - i) ≡ when_code b at (stop - at)
-  pub under : Below t (forest b at (stop - at))
-  pub low : at ≤ stop
+-- the condition of these siblings is sought among those that are left
+pub record Seeking (code : List Entry) (row : Rest) (o o₁ : List ℕ) : Type 0 where
+  pub same : code ≡ in_rest when_code row
   pub kept : o₁ ≡ o
 
-module _ {b t : List ℕ} {i stop at : ℕ} {o o₁ : List ℕ} (g : Seeking b t i stop at o o₁) where
-  pub seek_on : (s : ℕ) → at < stop → s ≡ span_in b at (stop - at) → (byte_of b at 0 ≡ 7 → ⊥) → Seeking b t i stop (at + s) o o₁
-  seek_on s h e k =
-      let q = span_le b at (stop - at) in
-      record { same = g.same ∙ when_skip b at stop s h e k; under = below_rest b t at stop s h e g.under; low = omega (arith, q, e, h); kept = g.kept }
+module _ {code : List Entry} {row : Rest} {o o₁ : List ℕ} (g : Seeking code row o o₁) where
+  pub seek_on : {row₁ : Rest} {place ends : ℕ} {book elders : List ℕ}
+      → First row.book.now row.elders.now row.from row.stop book elders place ends row₁.book.now row₁.elders.now row₁.from row₁.stop → (byte_of book place 0 ≡ 7 → ⊥) → Seeking code row₁ o o₁
+  seek_on p k = record { same = g.same ∙ when_skip p k; kept = g.kept }
 
-  pub seek_long : length o₁ ≡ length o
-  seek_long = ap (λ (l : List ℕ). length l) g.kept
-
-  pub seek_found : {xs : List Entry} {end start : ℕ} {o₂ : List ℕ} → when_code b at (stop - at) ≡ xs → Emitted xs end o₁ o₂ start → Emitted (when_code b i (stop - i)) end o o₂ start
+  pub seek_found : {xs : List Entry} {end start : ℕ} {o₂ : List ℕ} → in_rest when_code row ≡ xs → Emitted xs end o₁ o₂ start → Emitted code end o o₂ start
   seek_found e f = rw (g.same, e, ← g.kept) f
+
+-- what stands in the row of a record's children, by the walk from the first of them
+pub of_children : {A : Type 0} (f : List ℕ → ℕ → ℕ → A) (i : ℕ) {b t b₁ t₁ : List ℕ} {stop from upto : ℕ} → (b₁ ≡ b) × (t₁ ≡ t) × (from ≡ i + 1) × (upto ≡ stop)
+    → f b (i + 1) (stop - (i + 1)) ≡ f b₁ from (upto - from)
+of_children f i e = rw (e.0, e.2, e.3) refl
+
+pub target_children : (i x : ℕ) {b t b₁ t₁ : List ℕ} {stop from upto : ℕ} → (b₁ ≡ b) × (t₁ ≡ t) × (from ≡ i + 1) × (upto ≡ stop)
+    → target_code b (i + 1) (stop - (i + 1)) x ≡ target_code b₁ from (upto - from) x
+target_children i x e = of_children (λ b j left. target_code b j left x) i e
 
 -- rules
 pub rule_to : (b : List ℕ) (i stop n k : ℕ) → k ≡ length (when_code b (i + 1) (stop - (i + 1)))
@@ -277,16 +326,23 @@ module _ (b : List ℕ) (stop : ℕ) where
   rules_stop = rules_none b stop (stop - stop) (omega arith)
 
   module _ {t : List ℕ} {i next at : ℕ} (p : Piece b t i stop next at) where
-    pub rules_turn : (k : ℕ) → byte_of b at 0 ≡ 3 → k ≡ length (rules_to next) → Splits (rules_to at) (rule_code b at (next - at) k) (rules_to next)
+    rules_step : (k : ℕ) → byte_of b at 0 ≡ 3 → k ≡ length (rules_to next) → Splits (rules_to at) (rule_code b at (next - at) k) (rules_to next)
     unfolding rules_code rules_in code_rules rule_code
-    rules_turn k m e = record { joined = rw (e, row_is p, is_kind_lem b at 3 m) refl }
+    rules_step k m e = record { joined = rw (e, row_is p, is_kind_lem b at 3 m) refl }
 
-    pub rules_skip : (byte_of b at 0 ≡ 3 → ⊥) → rules_to at ≡ rules_to next
+    rules_pass : (byte_of b at 0 ≡ 3 → ⊥) → rules_to at ≡ rules_to next
     unfolding rules_code rules_in
-    rules_skip m = rw (row_is p, no_kind b at 3 m) refl
+    rules_pass m = rw (row_is p, no_kind b at 3 m) refl
+
+  module _ {t : List ℕ} {i next at place stops : ℕ} {book elders : List ℕ} (p : Taken b t i stop next at book elders place stops) where
+    pub rules_turn : (k : ℕ) → byte_of book place 0 ≡ 3 → k ≡ length (rules_to next) → Splits (rules_to at) (rule_code book place (stops - place) k) (rules_to next)
+    rules_turn k m e = rw (p.same_book, p.same_place, p.same_end) (rules_step p.piece k (rw (p.same_book, p.same_place) at m) e)
+
+    pub rules_skip : (byte_of book place 0 ≡ 3 → ⊥) → rules_to at ≡ rules_to next
+    rules_skip m = rules_pass p.piece (rw (p.same_book, p.same_place) at m)
 
   pub rules_grow : {t : List ℕ} {i : ℕ} (next at : ℕ) → Piece b t i stop next at → length (rules_to next) ≤ length (rules_to at)
-  rules_grow next at p = longer (eqb (byte_of b at 0) 3) (λ z. rules_turn p _ (eqb-true _ 3 z) refl) (λ z. rules_skip p (eqb-false _ 3 z))
+  rules_grow next at p = longer (eqb (byte_of b at 0) 3) (λ z. rules_step p _ (eqb-true _ 3 z) refl) (λ z. rules_pass p (eqb-false _ 3 z))
 
   -- obligations
   abbrev pub obligations_to : ℕ → List Entry
@@ -296,16 +352,24 @@ module _ (b : List ℕ) (stop : ℕ) where
   obligations_stop = obligations_none b stop (stop - stop) (omega arith)
 
   module _ {t : List ℕ} {i next at : ℕ} (p : Piece b t i stop next at) where
-    pub obligations_turn : byte_of b at 0 ≡ 8 → Splits (obligations_to at) (oblige (effect_of (byte_of b at 1)) (big_of b (at * size + 6) 2) ∷ []) (obligations_to next)
+    obligations_step : byte_of b at 0 ≡ 8 → Splits (obligations_to at) (oblige (effect_of (byte_of b at 1)) (big_of b (at * size + 6) 2) ∷ []) (obligations_to next)
     unfolding obligations_code obligations_in code_obligations
-    obligations_turn m = record { joined = rw (row_is p, is_kind_lem b at 8 m) refl }
+    obligations_step m = record { joined = rw (row_is p, is_kind_lem b at 8 m) refl }
 
-    pub obligations_skip : (byte_of b at 0 ≡ 8 → ⊥) → obligations_to at ≡ obligations_to next
+    obligations_pass : (byte_of b at 0 ≡ 8 → ⊥) → obligations_to at ≡ obligations_to next
     unfolding obligations_code obligations_in
-    obligations_skip m = rw (row_is p, no_kind b at 8 m) refl
+    obligations_pass m = rw (row_is p, no_kind b at 8 m) refl
+
+  module _ {t : List ℕ} {i next at place stops : ℕ} {book elders : List ℕ} (p : Taken b t i stop next at book elders place stops) where
+    pub obligations_turn : byte_of book place 0 ≡ 8
+        → Splits (obligations_to at) (oblige (effect_of (byte_of book place 1)) (big_of book (place * size + 6) 2) ∷ []) (obligations_to next)
+    obligations_turn m = rw (p.same_book, p.same_place) (obligations_step p.piece (rw (p.same_book, p.same_place) at m))
+
+    pub obligations_skip : (byte_of book place 0 ≡ 8 → ⊥) → obligations_to at ≡ obligations_to next
+    obligations_skip m = obligations_pass p.piece (rw (p.same_book, p.same_place) at m)
 
   pub obligations_grow : {t : List ℕ} {i : ℕ} (next at : ℕ) → Piece b t i stop next at → length (obligations_to next) ≤ length (obligations_to at)
-  obligations_grow next at p = longer (eqb (byte_of b at 0) 8) (λ z. obligations_turn p (eqb-true _ 8 z)) (λ z. obligations_skip p (eqb-false _ 8 z))
+  obligations_grow next at p = longer (eqb (byte_of b at 0) 8) (λ z. obligations_step p (eqb-true _ 8 z)) (λ z. obligations_pass p (eqb-false _ 8 z))
 
 -- policies and sets
 module _ (b : List ℕ) (stop up : ℕ) where
@@ -316,16 +380,23 @@ module _ (b : List ℕ) (stop up : ℕ) where
   trees_stop = trees_none b stop (stop - stop) up (omega arith)
 
   module _ {t : List ℕ} {i next at : ℕ} (p : Piece b t i stop next at) where
-    pub trees_turn : (k : ℕ) → is_party b at ≡ true → k ≡ length (trees_to next) → Splits (trees_to at) (tree_code b at (next - at) up k) (trees_to next)
+    trees_step : (k : ℕ) → is_party b at ≡ true → k ≡ length (trees_to next) → Splits (trees_to at) (tree_code b at (next - at) up k) (trees_to next)
     unfolding trees_code trees_in code_tree tree_code
-    trees_turn k m e = record { joined = rw (e, row_is p, m) refl }
+    trees_step k m e = record { joined = rw (e, row_is p, m) refl }
 
-    pub trees_skip : is_party b at ≡ false → trees_to at ≡ trees_to next
+    trees_pass : is_party b at ≡ false → trees_to at ≡ trees_to next
     unfolding trees_code trees_in
-    trees_skip m = rw (row_is p, m) refl
+    trees_pass m = rw (row_is p, m) refl
+
+  module _ {t : List ℕ} {i next at place stops : ℕ} {book elders : List ℕ} (p : Taken b t i stop next at book elders place stops) where
+    pub trees_turn : (k : ℕ) → is_party book place ≡ true → k ≡ length (trees_to next) → Splits (trees_to at) (tree_code book place (stops - place) up k) (trees_to next)
+    trees_turn k m e = rw (p.same_book, p.same_place, p.same_end) (trees_step p.piece k (rw (p.same_book, p.same_place) at m) e)
+
+    pub trees_skip : is_party book place ≡ false → trees_to at ≡ trees_to next
+    trees_skip m = trees_pass p.piece (rw (p.same_book, p.same_place) at m)
 
   pub trees_grow : {t : List ℕ} {i : ℕ} (next at : ℕ) → Piece b t i stop next at → length (trees_to next) ≤ length (trees_to at)
-  trees_grow next at p = longer (is_party b at) (λ z. trees_turn p _ z refl) (λ z. trees_skip p z)
+  trees_grow next at p = longer (is_party b at) (λ z. trees_step p _ z refl) (λ z. trees_pass p z)
 
 pub set_to : (b : List ℕ) (i stop k c : ℕ) → byte_of b i 0 ≡ 1 → c ≡ byte_of b i 1 → k ≡ length (obligations_code b (i + 1) (stop - (i + 1)))
     → Three (body_code b i (stop - i)) (trees_code b (i + 1) (stop - (i + 1)) c) (conclude k ∷ []) (obligations_code b (i + 1) (stop - (i + 1)))
@@ -355,105 +426,95 @@ within_to b i stop up n k j e f =
     let g = kids_left i stop in
     rw g at (within_parts b i (stop - i) up n k j e f)
 
--- how many obligations are due, counted from the first record on
-pub record Counting (b : List ℕ) (i stop : ℕ) (e : Effect) (deep : Bool) (at n : ℕ) : Type 0 where
-  pub total : n + due_in b at (stop - at) e deep ≡ due_in b i (stop - i) e deep
-  pub few : i + n ≤ at
-  pub low : at ≤ stop
+-- how many obligations are due, counted from the first record on, where a walk has the others left
+pub record Counting (b : List ℕ) (i stop : ℕ) (e : Effect) (deep : Bool) (w : Siblings) (n : ℕ) : Type 0 where
+  pub book : w.book.now ≡ b
+  pub total : n + due_in b w.at w.left e deep ≡ due_in b i (stop - i) e deep
+  pub few : i + n ≤ w.at
+  pub upto : w.at + w.left ≡ stop
 
-pub count_begin : (b : List ℕ) (i stop : ℕ) (e : Effect) (deep : Bool) → i ≤ stop → Counting b i stop e deep i 0
-count_begin b i stop e deep h = record { total = omega arith; few = omega arith; low = h }
+pub count_begin : {b : List ℕ} {i stop : ℕ} {e : Effect} {deep : Bool} {w v : Siblings} → v ≡ w → w.book.now ≡ b → w.at ≡ i → w.left ≡ stop - i → i ≤ stop → Counting b i stop e deep v 0
+count_begin z x y l h = rw z (record { book = x; total = rw (y, l) (omega arith); few = omega (arith, y); upto = omega (arith, y, l, h) })
 
-pub count_end : {b : List ℕ} {i stop : ℕ} {e : Effect} {deep : Bool} {at n : ℕ} → Counting b i stop e deep at n → stop ≤ at → (n ≡ due_in b i (stop - i) e deep) × (n ≤ stop - i)
-count_end {b} {i} {stop} {e} {deep} {at} {n} g h =
-    let z = due_none b at (stop - at) e deep (omega (arith, h)) in
-    (omega (arith, z, g.total), omega (arith, g.few, g.low))
+pub count_end : {b : List ℕ} {i stop : ℕ} {e : Effect} {deep : Bool} {w : Siblings} {n : ℕ} → Counting b i stop e deep w n → w.left ≡ 0 → (n ≡ due_in b i (stop - i) e deep) × (n ≤ stop - i)
+count_end {b} {i} {stop} {e} {deep} {w} {n} g h =
+    let z = due_none b w.at w.left e deep (omega (arith, h)) in
+    (omega (arith, z, g.total), omega (arith, g.few, g.upto, h))
 
-module _ {b : List ℕ} {i stop : ℕ} {e : Effect} {deep : Bool} {at n s : ℕ} (g : Counting b i stop e deep at n) (h : at < stop) (f : s ≡ span_in b at (stop - at)) where
-  count_on : (v : ℕ) → v + due_in b (at + s) (stop - at - s) e deep ≡ due_in b at (stop - at) e deep → v ≤ s → Counting b i stop e deep (at + s) (n + v)
-  count_on v w l =
-      let q = span_le b at (stop - at) in
-      let m : stop - at - s ≡ stop - (at + s) = omega arith in
-      let w₁ : v + due_in b (at + s) (stop - (at + s)) e deep ≡ due_in b at (stop - at) e deep = rw m at w in
-      record { total = omega (arith, w₁, g.total); few = omega (arith, l, g.few); low = omega (arith, q, f, h) }
+-- a turn, at record `at`, whose span is s
+module _ {b : List ℕ} {i stop : ℕ} {e : Effect} {deep : Bool} {w w₁ : Siblings} {n at s : ℕ} (g : Counting b i stop e deep w n) (p : Passes w at s w₁) where
+  some : 0 < w.left
+  some = omega (arith, p.long, p.short)
 
-  some : 0 < stop - at
-  some = omega (arith, h)
+  span : s ≡ span_in b at w.left
+  span = rw g.book at p.span
 
-  pos : 0 < s
-  pos = let p = span_pos b at (stop - at) (omega (arith, h)) in omega (arith, p, f)
+  count_on : (v : ℕ) → v + due_in b (at + s) (w.left - s) e deep ≡ due_in b at w.left e deep → v ≤ s → Counting b i stop e deep w₁ (n + v)
+  count_on v u l =
+      let t : n + due_in b at w.left e deep ≡ due_in b i (stop - i) e deep = rw (← p.place) at g.total in
+      record {
+        book = p.book ∙ g.book;
+        total = rw (p.at, p.left) (omega (arith, u, t));
+        few = omega (arith, l, g.few, p.at, p.place);
+        upto = omega (arith, g.upto, p.at, p.place, p.left, p.short);
+      }
 
-  same_n : Counting b i stop e deep (at + s) (n + 0) → Counting b i stop e deep (at + s) n
+  same_n : Counting b i stop e deep w₁ (n + 0) → Counting b i stop e deep w₁ n
   same_n c = let z : n + 0 ≡ n = omega arith in rw z at c
 
-  pub count_own : {m k : ℕ} → byte_of b at 0 ≡ 8 → m ≡ effect_code (effect_of (byte_of b at 1)) → k ≡ effect_code e → m ≡ k → Counting b i stop e deep (at + s) (n + 1)
-  count_own k p q z =
-      let w = due_own b at (stop - at) e some f deep k p q z refl in
-      count_on 1 (omega (arith, w)) pos
+  pub count_own : {m k v : ℕ} → byte_of b at 0 ≡ 8 → m ≡ effect_code (effect_of (byte_of b at 1)) → k ≡ effect_code e → v ≡ bool_byte (eqb m k) → Counting b i stop e deep w₁ (n + v)
+  count_own {m} {k} {v} x q y o = go (eqb m k) refl
+    where
+      go : (z : Bool) → eqb m k ≡ z → Counting b i stop e deep w₁ (n + v)
+      go true z =
+          let u = due_own b at w.left e some span deep x q y (eqb-true m k z) refl in
+          let o₁ : v ≡ 1 = rw z at o in
+          count_on v (omega (arith, u, o₁)) (omega (arith, p.long, o₁))
+      go false z =
+          let u = due_else b at w.left e some span deep x q y (eqb-false m k z) refl in
+          let o₁ : v ≡ 0 = rw z at o in
+          count_on v (omega (arith, u, o₁)) (omega (arith, o₁))
 
-  pub count_else : {m k : ℕ} → byte_of b at 0 ≡ 8 → m ≡ effect_code (effect_of (byte_of b at 1)) → k ≡ effect_code e → (m ≡ k → ⊥) → Counting b i stop e deep (at + s) n
-  count_else k p q z =
-      let w = due_else b at (stop - at) e some f deep k p q z refl in
-      same_n (count_on 0 (omega (arith, w)) (omega arith))
-
-  pub count_flat : (byte_of b at 0 ≡ 8 → ⊥) → deep ≡ false → Counting b i stop e deep (at + s) n
-  count_flat k z =
-      let w = due_flat b at (stop - at) e some f deep k z refl in
-      same_n (count_on 0 (omega (arith, w)) (omega arith))
+  pub count_flat : (byte_of b at 0 ≡ 8 → ⊥) → deep ≡ false → Counting b i stop e deep w₁ n
+  count_flat x z =
+      let u = due_flat b at w.left e some span deep x z refl in
+      same_n (count_on 0 (omega (arith, u)) (omega arith))
 
   pub count_party : {k v : ℕ} → k ≡ byte_of b at 0 → (k ≡ 8 → ⊥) → is_party b at ≡ true → deep ≡ true → v ≡ due_in b (at + 1) (at + s - (at + 1)) e (eqb k 1) → v ≤ at + s - (at + 1)
-      → Counting b i stop e deep (at + s) (n + v)
+      → Counting b i stop e deep w₁ (n + v)
   count_party {k} {v} d x m z y l =
       let q : at + s - (at + 1) ≡ s - 1 = omega arith in
       let y₁ : v ≡ due_in b (at + 1) (s - 1) e (is_kind b at 1) = rw (q, d) at y in
-      count_on v (due_party b at (stop - at) e some f deep (differs 8 d x) m z y₁ refl) (omega (arith, l))
+      count_on v (due_party b at w.left e some span deep (differs 8 d x) m z y₁ refl) (omega (arith, l))
 
-  pub count_other : (byte_of b at 0 ≡ 8 → ⊥) → is_party b at ≡ false → Counting b i stop e deep (at + s) n
-  count_other k m =
-      let w = due_other b at (stop - at) e some f deep k m refl in
-      same_n (count_on 0 (omega (arith, w)) (omega arith))
+  pub count_other : (byte_of b at 0 ≡ 8 → ⊥) → is_party b at ≡ false → Counting b i stop e deep w₁ n
+  count_other x m =
+      let u = due_other b at w.left e some span deep x m refl in
+      same_n (count_on 0 (omega (arith, u)) (omega arith))
 
--- ends, one after the other
-pub record Ending (left due end : ℕ) (o o₁ : List ℕ) (start : ℕ) : Type 0 where
-  pub many : ℕ
-  pub sum : many + (due - 1) / 2 ≡ (left - 1) / 2
-  pub done : Emitted (replicate many finish) end o o₁ start
+-- so many ends, and one more before them
+pub one_more : (many : ℕ) {end start start₂ : ℕ} {o o₁ o₂ : List ℕ} → Emitted (replicate many finish) end o o₁ start → Emitted (finish ∷ []) start o₁ o₂ start₂
+    → Emitted (replicate (many + 1) finish) end o o₂ start₂
+one_more many g f =
+    let h : suc many ≡ many + 1 = omega arith in
+    let e : replicate (suc many) finish ≡ replicate (many + 1) finish = ap (λ (k : ℕ). replicate k finish) h in
+    follows {xs = finish ∷ []} (record { joined = sym e }) g f
 
-pub ending_begin : (left end : ℕ) (o : List ℕ) → Ending left left end o o end
-ending_begin left end o = record { many = 0; sum = omega arith; done = nothing refl }
-
-module _ {left due end start : ℕ} {o o₁ : List ℕ} (g : Ending left due end o o₁ start) where
-  pub ending_room : length (replicate (suc ((left - 1) / 2)) finish) ≤ end → 0 < start
-  ending_room r =
-      let k = length-replicate (suc ((left - 1) / 2)) finish in
-      let m = length-replicate g.many finish in
-      omega (arith, r, k, m, g.sum, g.done.starts)
-
-  module _ {start₂ : ℕ} {o₂ : List ℕ} (f : Emitted (finish ∷ []) start o₁ o₂ start₂) where
-    one_more : Emitted (replicate (suc g.many) finish) end o o₂ start₂
-    one_more = follows (record { joined = refl }) g.done f
-
-    pub ending_more : 3 ≤ due → Ending left (due - 2) end o o₂ start₂
-    ending_more h = record { many = suc g.many; sum = omega (arith, h, g.sum); done = one_more }
-
-    pub ending_end : due < 3 → Emitted (replicate (suc ((left - 1) / 2)) finish) end o o₂ start₂
-    ending_end h = let e : g.many ≡ (left - 1) / 2 = omega (arith, h, g.sum) in rw e at one_more
-
--- what is below the first record of a row
-pub first_linked : (b t : List ℕ) (i stop s : ℕ) → i < stop → s ≡ span_in b i (stop - i) → Linked t (forest b i (stop - i)) → Linked t (forest b (i + 1) (i + s - (i + 1)))
-unfolding Linked LinkedFrom
-first_linked b t i stop s h e r =
-    let f : i + s - i - 1 ≡ i + s - (i + 1) = omega arith in
-    let r₁ = rw (forest_first b i stop h e) at r in
-    rw f at r₁.1
-
--- the whole programme, its top record ending at n
-pub programme_to : (b : List ℕ) (n : ℕ) {p d : ℕ} → length b ≡ n * size → p ≡ due_in b 1 (n - 1) Permits (is_kind b 0 1) → d ≡ due_in b 1 (n - 1) Denies (is_kind b 0 1)
-    → Three (translated (book_of b)) (begin (algorithm_at b 0) p ∷ []) (within_code b 0 (n - 0) 3 0) (replicate (suc ((d - 1) / 2)) finish)
-programme_to b n l f g = let z : n - 0 ≡ n = omega arith in rw z (programme_parts b n l refl f g)
+-- as many as there are to be
+pub all_ends : (left many : ℕ) {end start : ℕ} {o o₁ : List ℕ} → Emitted (replicate many finish) end o o₁ start → many ≡ suc ((left - 1) / 2) → Emitted (replicate (suc ((left - 1) / 2)) finish) end o o₁ start
+all_ends left many g e = as_is (ap (λ (k : ℕ). replicate k finish) (sym e)) g
 
 pub due_by : (b : List ℕ) (m : ℕ) (e : Effect) {k r : ℕ} → k ≡ byte_of b 0 0 → r ≡ due_in b 1 m e (eqb k 1) → r ≡ due_in b 1 m e (is_kind b 0 1)
 due_by b m e f g = rw (← f) g
+
+-- the whole programme, its top record ending at n
+pub programme_to : (b : List ℕ) (n : ℕ) {i p d : ℕ} → (i ≡ 0) × (length b ≡ n * size) → p ≡ due_in b (i + 1) (n - (i + 1)) Permits (is_kind b i 1) → d ≡ due_in b (i + 1) (n - (i + 1)) Denies (is_kind b i 1)
+    → Three (translated (book_of b)) (begin (algorithm_at b i) p ∷ []) (within_code b i (n - i) 3 0) (replicate (suc ((d - 1) / 2)) finish)
+programme_to b n {i} {p} {d} e f g =
+    let f₁ : p ≡ due_in b 1 (n - 1) Permits (is_kind b 0 1) = rw e.0 at f in
+    let g₁ : d ≡ due_in b 1 (n - 1) Denies (is_kind b 0 1) = rw e.0 at g in
+    let z : n - 0 ≡ n = omega arith in
+    rw (e.0, z) (programme_parts b n e.1 refl f₁ g₁)
 
 pub from_first : {code : List Entry} {k start : ℕ} {o o₁ : List ℕ} → k ≡ length code → Emitted code k o o₁ start → Emitted code k o o₁ 0
 from_first {code} {k} {start} e f = let z : start ≡ 0 = omega (arith, e, f.starts) in rw z at f

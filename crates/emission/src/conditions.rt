@@ -1,146 +1,116 @@
 // The code of conditions: comparisons, what joins them, and the one that a rule has.
 ghost use Rattle.std.specs.Prelude.{◌≡◌, [], ◌∷◌, ◌+◌, ◌*◌, ◌-◌, ◌<◌, ◌≤◌, length};
-ghost use Rattle.record.specs.Bytes.{size, most_records};
-ghost use Rattle.record.specs.Forest.{forest};
 ghost use Rattle.meaning.specs.Numbers.{bare_of};
 ghost use Rattle.meaning.specs.Reading.{choice_at, comparison_at};
 ghost use Rattle.layout.specs.Entry.{further, compare};
 ghost use Rattle.layout.specs.Layout.{test_word};
-ghost use Rattle.emission.specs.Emit.{Emitted, condition_code, conditions_code, when_code};
-ghost use Rattle.elders.specs.Links.{Linked, Below};
+ghost use Rattle.emission.specs.Emit.{Emitted, condition_code, conditions_code, when_code, at_node, in_node, in_rest};
 
-use crate::values::{TESTS, operands, piece};
-use crate::{CLOSE, COMPARE, OPENS, function_code, prepend, single, test_word};
-use elders::{Elders, elder};
+use crate::values::{operands, piece};
+use crate::{ISSUER, TEST_WORDS, prepend, single, test_word};
+use elders::{Node, Rest};
+use layout::{Coded, kind};
 use meaning::Test;
+use record::choice::{NOT, WEIGHS};
+use record::kind::CONDITION;
+use value::Function;
 
 // The first number of a comparison.
 fn compare_word(t: Test, n: usize) -> u64
     requires { n < 32768 }
     ensures { result ≡ 13 + 16 * (test_word t + 16 * (bare_of t.key + 4294967296 * n)) }
 {
-    let key = t.key % 4294967296 + 4294967296 * n as u64;
-    COMPARE + 16 * (test_word(t) + 16 * key)
+    let key = t.key % ISSUER + ISSUER * n as u64;
+    kind::COMPARE + kind::KINDS * (test_word(t) + TEST_WORDS * key)
 }
 
-// The comparison at record i.
-fn comparison(book: &[u8], i: usize, n: usize, out: &mut [u64], end: usize) -> usize
-    requires { ((i + 1) * size ≤ length book.now) × (3 ≤ end) × (n < 32768) }
-    ensures { Emitted (compare (comparison_at book.now i) n ∷ further ∷ further ∷ []) end out.old out.new result }
+// The comparison at a node.
+fn comparison(node: Node, n: usize, out: &mut [u64], end: usize) -> usize
+    requires { (3 ≤ end) × (n < 32768) }
+    ensures { Emitted (compare (comparison_at node.entry.book.now node.entry.at) n ∷ further ∷ further ∷ []) end out.old out.new result }
 {
-    let t = rules::comparison_at(book, i);
-    let issuer = prepend(out, end, t.key / 4294967296);
+    let t = rules::comparison_at(node.book, node.at);
+    let issuer = prepend(out, end, t.key / ISSUER);
     let literal = prepend(out, issuer, t.literal);
     prepend(out, literal, compare_word(t, n))
 }
 
-// The comparison at record i, which ends at `stop`: by a choice above 20 of its two operands; without two it counts as one of a literal with an attribute.
-fn weighing(book: &[u8], i: usize, stop: usize, n: usize, out: &mut [u64], end: usize) -> usize
-    requires { (i < stop) × (stop * size ≤ length book.now) × (3 < choice_at book.now i) × (length (condition_code book.now i (stop - i) n) ≤ end) × (n < 32768) }
-    ensures { Emitted (condition_code book.now i (stop - i) n) end out.old out.new result }
+// The comparison at a node: by a choice above 20 of its two operands; without two it counts as one of a literal with an attribute.
+fn weighing(node: Node, n: usize, out: &mut [u64], end: usize) -> usize
+    requires { (3 < choice_at node.book.now node.at) × (length (at_node condition_code node n) ≤ end) × (n < 32768) }
+    ensures { Emitted (at_node condition_code node.entry n) end out.old out.new result }
 {
-    let choice = record::byte(book, i, 1);
-    if choice <= 20 {
-        return comparison(book, i, n, out, end);
+    let choice = node.choice();
+    if choice <= WEIGHS {
+        return comparison(node, n, out, end);
     }
-    let second = weigh::second_in(book, i, stop);
-    if second == stop {
-        return comparison(book, i, n, out, end);
+    let second = weigh::second_in(node.book, node.at, node.stop);
+    if second == node.stop {
+        return comparison(node, n, out, end);
     }
-    let f = value::function_of(choice - 20);
-    let kind = weigh::type_at(book, i + 1);
-    let foot = single(out, end, CLOSE, n);
-    let test = piece(out, foot, TESTS, function_code(f) + 8 * kind as u64);
-    operands(book, i, second, stop, out, test)
+    let f = value::function_of(choice - WEIGHS);
+    let kind = weigh::type_at(node.book, node.at + 1);
+    let foot = single(out, end, kind::CLOSE, n);
+    let test = piece(
+        out,
+        foot,
+        kind::TESTS,
+        f.code() + Function::SIZE * kind as u64,
+    );
+    operands(node.book, node.at, second, node.stop, out, test)
 }
 
-// The condition at record i, whose parts end at `stop`: choices 1 to 3 have parts, of which not takes the first; a not without parts counts as a comparison.
+// The condition at a node: choices 1 to 3 have parts, of which not takes the first; a not without parts counts as a comparison.
 #[cycle(condition_conditions)]
-fn condition(
-    book: &[u8],
-    elders: &Elders,
-    i: usize,
-    stop: usize,
-    n: usize,
-    out: &mut [u64],
-    end: usize,
-) -> usize
-    requires { (i < stop) × (stop ≤ most_records) × (stop * size ≤ length book.now) × (length (condition_code book.now i (stop - i) n) ≤ end) × (end + n ≤ 16384)
-        × Linked elders.now (forest book.now (i + 1) (stop - (i + 1))) }
-    ensures { Emitted (condition_code book.now i (stop - i) n) end out.old out.new result }
+fn condition(node: Node, n: usize, out: &mut [u64], end: usize) -> usize
+    requires { (length (at_node condition_code node n) ≤ end) × (end + n ≤ 16384) }
+    ensures { Emitted (at_node condition_code node.entry n) end out.old out.new result }
 {
-    let choice = record::byte(book, i, 1);
+    let choice = node.choice();
     if choice == 0 {
-        return comparison(book, i, n, out, end);
+        return comparison(node, n, out, end);
     }
-    if 3 < choice {
-        return weighing(book, i, stop, n, out, end);
+    if NOT < choice {
+        return weighing(node, n, out, end);
     }
-    let inner = i + 1;
-    if choice == 3 {
-        if inner == stop {
-            return comparison(book, i, n, out, end);
-        }
-        let part = record::span_in(book, inner, stop - inner);
-        let foot = single(out, end, CLOSE, n);
-        let head = condition(book, elders, inner, inner + part, 0, out, foot);
-        return single(out, head, OPENS, 2);
+    if choice == NOT {
+        let Some(part) = node.rest().take_first() else {
+            return comparison(node, n, out, end);
+        };
+        let foot = single(out, end, kind::CLOSE, n);
+        let head = condition(part, 0, out, foot);
+        return single(out, head, kind::OPENS, 2);
     }
-    let foot = single(out, end, CLOSE, n);
-    let head = conditions(book, elders, inner, stop, out, foot);
-    single(out, head, OPENS, choice - 1)
+    let foot = single(out, end, kind::CLOSE, n);
+    let head = conditions(node, out, foot);
+    single(out, head, kind::OPENS, choice - 1)
 }
 
-// The conditions from record i to `stop`.
+// The conditions below a node.
 #[cycle(condition_conditions)]
-fn conditions(
-    book: &[u8],
-    elders: &Elders,
-    i: usize,
-    stop: usize,
-    out: &mut [u64],
-    end: usize,
-) -> usize
-    requires { (i ≤ stop) × (stop ≤ most_records) × (stop * size ≤ length book.now) × (length (conditions_code book.now i (stop - i)) ≤ end) × (end ≤ 16384)
-        × Linked elders.now (forest book.now i (stop - i)) }
-    ensures { Emitted (conditions_code book.now i (stop - i)) end out.old out.new result }
+fn conditions(node: Node, out: &mut [u64], end: usize) -> usize
+    requires { (length (in_node conditions_code node) ≤ end) × (end ≤ 16384) }
+    ensures { Emitted (in_node conditions_code node.entry) end out.old out.new result }
 {
-    if i == stop {
-        return end;
-    }
-    let mut next = stop;
-    let mut at = elder(elders, i);
+    let mut row = node.children();
     let mut start = end;
-    while i < next {
+    while let Some(child) = row.take_last() {
         let behind = end - start;
-        start = condition(book, elders, at, next, behind, out, start);
-        next = at;
-        at = elder(elders, at);
+        start = condition(child, behind, out, start);
     }
     start
 }
 
-// The condition among a rule's children, from record i to `stop`.
-pub fn when(
-    book: &[u8],
-    elders: &Elders,
-    i: usize,
-    stop: usize,
-    out: &mut [u64],
-    end: usize,
-) -> usize
-    requires { (i ≤ stop) × (stop ≤ most_records) × (stop * size ≤ length book.now) × (length (when_code book.now i (stop - i)) ≤ end) × (end ≤ 16384)
-        × Below elders.now (forest book.now i (stop - i)) }
-    ensures { Emitted (when_code book.now i (stop - i)) end out.old out.new result }
+// The condition among siblings, those below a rule.
+pub fn when(row: Rest, out: &mut [u64], end: usize) -> usize
+    requires { (length (in_rest when_code row) ≤ end) × (end ≤ 16384) }
+    ensures { Emitted (in_rest when_code row.entry) end out.old out.new result }
 {
-    let mut at = i;
-    while at < stop {
-        let s = record::span_in(book, at, stop - at);
-        let next = at + s;
-        if record::byte(book, at, 0) == 7 {
-            return condition(book, elders, at, next, 0, out, end);
+    let mut left = row;
+    while let Some(child) = left.take_first() {
+        if child.kind() == CONDITION {
+            return condition(child, 0, out, end);
         }
-        at = next;
     }
     end
 }

@@ -5,38 +5,25 @@ ghost use Rattle.meaning.specs.Reading.{effect_of};
 ghost use Rattle.layout.specs.Entry.{finish};
 ghost use Rattle.emission.specs.Emit.{Emitted, due_in};
 
-use crate::{FINISH, effect_code, single};
+use crate::{effect_code, single};
+use layout::kind;
+use record::kind::{OBLIGATION, SET};
+use record::siblings::Siblings;
 
 // How many obligations on effect e are due in the records from i to `stop`: those of these children, and, in a set, of the policies and sets among them.
+// Kept: the effect comes as a choice, since docs/CONTRACTS.md names this function, and it takes any.
 pub fn due(book: &[u8], i: usize, stop: usize, e: usize, set: bool) -> usize
     requires { (i ≤ stop) × (stop * size ≤ length book.now) }
     ensures { (result ≡ due_in book.now i (stop - i) (effect_of e) set) × (result ≤ stop - i) }
 {
-    let mut at = i;
-    let mut n: usize = 0;
-    while at < stop {
-        let s = record::span_in(book, at, stop - at);
-        let next = at + s;
+    let mut n = 0;
+    for (at, s) in Siblings::new(book, i, stop - i) {
         let kind = record::byte(book, at, 0);
-        if kind == 8 {
-            if effect_code(record::byte(book, at, 1)) == effect_code(e) {
-                n += 1;
-                at = next;
-                continue;
-            }
-            at = next;
-            continue;
+        if kind == OBLIGATION {
+            n += usize::from(effect_code(record::byte(book, at, 1)) == effect_code(e));
+        } else if set && meaning::is_party(book, at) {
+            n += due(book, at + 1, at + s, e, kind == SET);
         }
-        if !set {
-            at = next;
-            continue;
-        }
-        if !meaning::is_party(book, at) {
-            at = next;
-            continue;
-        }
-        n += due(book, at + 1, next, e, kind == 1);
-        at = next;
     }
     n
 }
@@ -47,12 +34,8 @@ pub fn ends(out: &mut [u64], end: usize, left: usize) -> usize
     ensures { Emitted (replicate (suc ((left - 1) / 2)) finish) end out.old out.new result }
 {
     let mut start = end;
-    let mut due = left;
-    loop {
-        start = single(out, start, FINISH, 0);
-        if due < 3 {
-            return start;
-        }
-        due -= 2;
+    for _ in 0..left.max(1).div_ceil(2) {
+        start = single(out, start, kind::FINISH, 0);
     }
+    start
 }

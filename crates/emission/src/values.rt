@@ -4,27 +4,23 @@ ghost use Rattle.record.specs.Bytes.{size, big_of};
 ghost use Rattle.meaning.specs.Reading.{key_at};
 ghost use Rattle.weigh.specs.Two.{second_in};
 ghost use Rattle.layout.specs.Entry.{loads, asks, further, sum};
-ghost use Rattle.layout.specs.Layout.{operator_code};
 ghost use Rattle.emission.specs.Emit.{Emitted, Wrote, expr_code, operands_code};
 
-use crate::{SUM, prepend};
-use sums::Operator;
-
-// Which piece of a comparison of two values an entry is, by its number.
-const LOADS: u64 = 0;
-
-const ASKS: u64 = 1;
-
-const WORKS: u64 = 2;
-
-pub const TESTS: u64 = 3;
+use crate::prepend;
+use layout::{Coded, kind};
+use record::choice::{ATTRIBUTE, LITERAL};
 
 // A piece of one number, made of which it is and of a field.
+// Kept: which it is comes as a number, since docs/CONTRACTS.md names this function, and it takes any below 4.
 pub fn piece(out: &mut [u64], end: usize, which: u64, field: u64) -> usize
     requires { (0 < end) × (which < 4) × (field < 281474976710656) }
     ensures { Wrote ((12 + 16 * (which + 4 * field)) ∷ []) end out.old out.new result }
 {
-    prepend(out, end, SUM + 16 * (which + 4 * field))
+    prepend(
+        out,
+        end,
+        kind::SUM + kind::KINDS * (which + kind::PIECES * field),
+    )
 }
 
 // The literal at record i, as a value of this type.
@@ -33,7 +29,7 @@ fn literal(book: &[u8], i: usize, kind: usize, out: &mut [u64], end: usize) -> u
     ensures { Emitted (sum (loads kind (big_of book.now (i * size + 8) 8)) ∷ further ∷ []) end out.old out.new result }
 {
     let value = prepend(out, end, record::big8(book, i * record::SIZE + 8));
-    piece(out, value, LOADS, kind as u64)
+    piece(out, value, kind::LOADS, kind as u64)
 }
 
 // The attribute at record i.
@@ -42,24 +38,11 @@ fn attribute(book: &[u8], i: usize, out: &mut [u64], end: usize) -> usize
     ensures { Emitted (sum (asks (key_at book.now i)) ∷ []) end out.old out.new result }
 {
     let key = weigh::key_at(book, i);
-    piece(out, end, ASKS, key)
-}
-
-// The number of an operator.
-fn operator_code(op: Operator) -> u64
-    ensures { (result ≡ operator_code op) × (result < 8) }
-{
-    match op {
-        Operator::Add => 0,
-        Operator::Subtract => 1,
-        Operator::Multiply => 2,
-        Operator::Divide => 3,
-        Operator::Remainder => 4,
-        Operator::DoubleAdd => 5,
-    }
+    piece(out, end, kind::ASKS, key)
 }
 
 // The two operands of record i, the second of which begins at `second`.
+// Kept: places in place of a node, since docs/CONTRACTS.md names this function, and it asks for no table of elders.
 #[cycle(expr_operands)]
 pub fn operands(
     book: &[u8],
@@ -84,11 +67,11 @@ fn expr(book: &[u8], i: usize, stop: usize, out: &mut [u64], end: usize) -> usiz
     ensures { Emitted (expr_code book.now i (stop - i)) end out.old out.new result }
 {
     let choice = record::byte(book, i, 1);
-    if choice == 2 {
+    if choice == ATTRIBUTE {
         return attribute(book, i, out, end);
     }
     let kind = weigh::type_at(book, i);
-    if choice == 1 {
+    if choice == LITERAL {
         return literal(book, i, kind, out, end);
     }
     let second = weigh::second_in(book, i, stop);
@@ -96,6 +79,6 @@ fn expr(book: &[u8], i: usize, stop: usize, out: &mut [u64], end: usize) -> usiz
         return literal(book, i, kind, out, end);
     }
     let op = weigh::operator_of(choice);
-    let foot = piece(out, end, WORKS, operator_code(op));
+    let foot = piece(out, end, kind::WORKS, op.code());
     operands(book, i, second, stop, out, foot)
 }

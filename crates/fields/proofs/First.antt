@@ -145,3 +145,6 @@ module _ (f : ℕ → Bool) where
 
   pub first_reach : (n : ℕ) → ((j : ℕ) → j < n → f j ≡ true) → n ≤ first_from f 0 n
   first_reach n h = omega (arith, first_reach_all 0 n (λ j a z. h j (omega arith)))
+
+-- what a loop needs that looks for the first that fails
+pub ruleset search_steps = (first_here, first_next, first_none)

@@ -15,6 +15,7 @@ use std::rt::Files;
 use std::{fs, io};
 
 // Reads until the buffer is full, the input ends or a read fails: how many bytes came.
+// Kept: by hand, since `read_to_end` needs a heap and `read_exact` does not say how much came.
 pub fn read_full<R: Read>(input: &mut R, buffer: &mut [u8]) -> usize
     ensures within { IsPrefixLen result buffer.new }
     ensures bytes { Consumes (R.remaining input.old) (R.remaining input.new) (take result buffer.new) }
@@ -30,6 +31,7 @@ pub fn read_full<R: Read>(input: &mut R, buffer: &mut [u8]) -> usize
 }
 
 // How many bytes of the file came: none if it will not open.
+// Kept: no `Option`, since no BOOK.HEX counts as an empty book, refusal 3.
 pub fn read_book_file(rt: &impl Files, buffer: &mut [u8]) -> usize
     ensures { IsPrefixLen result buffer.new }
 {

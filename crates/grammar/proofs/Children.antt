@@ -12,7 +12,7 @@ use Rattle.record.specs.Bytes.{byte_of, span_of}
 use Rattle.fields.specs.declared.Kind.{Kind}
 use Rattle.fields.specs.declared.Kind.TheVariants.{Section, Conjunction, Match, Obligation}
 use Rattle.placement.specs.Place.{most_depth, kind_number, takes_of, rise_of, under_ok, rank_of}
-use Rattle.grammar.specs.Row.{Fit, Row}
+use Rattle.grammar.specs.Row.{Fit, Row, Sections}
 use Rattle.operands.proofs.Parent.{span_end}
 use Rattle.grammar.proofs.Rows.{operands_of, row_none, row_then, row_lower, row_child}
 use Rattle.grammar.proofs.Fits.{leaf, other, not_duty, duty, fit_span, fit_leaf}
@@ -24,7 +24,8 @@ pub row_leaf : (b : List ℕ) (d pn gc pc lo : ℕ) {i e : ℕ} {k : Kind} → F
 row_leaf b d pn gc pc lo {i} {e} {k} f l h takes after under wants deep =
     let u : i + 1 ≤ e = omega arith in
     let x : Row b (i + 1) (i + 1) (i + 1) (d + 1) (kind_number k) pc (byte_of b i 4) 0 0 0 = row_none b refl (omega arith) in
-    rw (add-zero (if (eqb (byte_of b i 0) 8) 1 0)) at (row_child b d pn gc pc lo f (sym (span_end b i 1 (sym (fit_leaf b i f l)))) (omega arith) u takes after under wants deep x)
+    let ends = sym (span_end b i 1 (sym (fit_leaf b i f l))) in
+    rw (add-zero (if (eqb (byte_of b i 0) 8) 1 0)) at (row_child b d pn gc pc lo f ends (omega arith) u takes after under wants deep x)
 
 -- one more match
 pub match_more : (b : List ℕ) {from i end category n : ℕ} → ((d pc : ℕ) → d < most_depth → Row b from i end d 5 category pc 5 5 0)
@@ -59,3 +60,8 @@ module _ (b : List ℕ) {from i end next category s : ℕ} (es : s ≡ span_of b
       (rw (not_duty b i f (other refl), ← ec) at
       (row_child b d pn gc pc last f (en ∙ sym (span_end b i s es)) (omega (arith, fit_span b i f)) h takes (omega arith) refl refl (omega arith)
       (row_lower b (rw ec at (y (d + 1) pc (omega arith))) (omega arith))))
+
+-- a record's sections, the last of which has a category of at most 4
+pub sections_are : (b : List ℕ) {from i e d last : ℕ} → i ≤ e → last ≤ 4 → ((pn gc pc : ℕ) → among 1 3 pn ≡ true → Row b from i e d pn gc pc 0 last 0)
+    → Sections b from i e d
+sections_are b upto four x = record { upto = upto; row = λ pn gc pc l. row_then b (x pn gc pc l) (row_none b refl four) }

@@ -2,7 +2,7 @@
 use mathlib.Core.Path.{◌≡◌, refl, sym, ap, ◌∙◌}
 use mathlib.Core.Bool.{Bool, true, false}
 use mathlib.Core.List.{List}
-use Prim.Native.Nat.{ℕ, ◌+◌, ◌≤◌, ◌<◌}
+use Prim.Native.Nat.{ℕ, ◌≤◌}
 use native.Mathlib.Omega.{arith}
 use lib.Dec.{leb, eqb}
 use borrow.Author.Tests.{eq-eqb, eqb-true, leb-true}
@@ -16,30 +16,10 @@ use Rattle.fields.proofs.First.{by}
 use Rattle.fields.proofs.Spans.{span_pos}
 use Rattle.placement.specs.Place.{kind_number}
 use Rattle.grammar.specs.Row.{Fit, is_fit}
-
--- the papers' table by kind: its kind byte, its lowest choice and its highest; `Nothing` has no choice
-abbrev table_of : Kind → ℕ × ℕ × ℕ
-table_of PolicySet = (1, 1, 4)
-table_of Policy = (2, 1, 3)
-table_of Rule = (3, 1, 2)
-table_of Section = (4, 0, 0)
-table_of Conjunction = (5, 0, 0)
-table_of Match = (6, 1, 5)
-table_of Logic = (7, 1, 2)
-table_of Not = (7, 3, 3)
-table_of Comparison = (7, 11, 15)
-table_of Weighing = (7, 21, 25)
-table_of Obligation = (8, 1, 2)
-table_of Literal = (10, 1, 1)
-table_of Attribute = (10, 2, 2)
-table_of Operator = (10, 3, 8)
-table_of Nothing = (0, 1, 0)
+use Rattle.grammar.specs.Table.{table_of, in_table}
 
 abbrev choice_ok : Kind → ℕ → Bool
 choice_ok k c = among (table_of k).1 (table_of k).2 c
-
-abbrev in_table : Kind → ℕ → ℕ → Bool
-in_table k n c = both (eqb n (table_of k).0) (choice_ok k c)
 
 -- a choice of a kind is at least the lowest
 least : (k : Kind) (c : ℕ) → choice_ok k c ≡ true → (table_of k).1 ≤ c
@@ -123,10 +103,10 @@ numbered Operator = refl
 numbered Nothing = refl
 
 -- what passes the test is a k, and keeps its field rules
-pub fits : {b : List ℕ} {i : ℕ} {k : Kind} {t : Bool} → t ≡ is_fit b i k → t ≡ true → Fit b i k
+pub fits : {b : List ℕ} {i : ℕ} {k : Kind} → true ≡ is_fit b i k → Fit b i k
 unfolding is_fit
-fits {b} {i} {k} et y =
-    let p = both_parts (eqb (kind_number (kind_at b i)) (kind_number k)) (field_ok b i) (sym et ∙ y) in
+fits {b} {i} {k} y =
+    let p = both_parts (eqb (kind_number (kind_at b i)) (kind_number k)) (field_ok b i) (sym y) in
     record {
       kind = sym (numbered (kind_at b i)) ∙ ap of_number (eqb-true (kind_number (kind_at b i)) (kind_number k) p.0) ∙ numbered k;
       fields = p.1;
@@ -135,7 +115,7 @@ fits {b} {i} {k} et y =
 -- the test, once kind and choice were looked up
 module _ (b : List ℕ) (i : ℕ) (k : Kind) {t : Bool} (et : t ≡ in_table k (byte_of b i 0) (byte_of b i 1)) where
   pub unlisted : t ≡ false → false ≡ is_fit b i k
-  unlisted n = by (is_fit b i k) (λ y. sym n ∙ et ∙ in_table_lem b i (fits refl y) ∙ sym y) sym
+  unlisted n = by (is_fit b i k) (λ y. sym n ∙ et ∙ in_table_lem b i (fits (sym y)) ∙ sym y) sym
 
   module _ (y : t ≡ true) where
     found : (eqb (byte_of b i 0) (table_of k).0 ≡ true) × (choice_ok k (byte_of b i 1) ≡ true)
@@ -147,6 +127,11 @@ module _ (b : List ℕ) (i : ℕ) (k : Kind) {t : Bool} (et : t ≡ in_table k (
 
     pub lowest : (table_of k).1 ≤ byte_of b i 1
     lowest = least k (byte_of b i 1) found.1
+
+-- the test by the table
+pub fit_by_table : (b : List ℕ) (i : ℕ) (k : Kind) → is_fit b i k ≡ both (in_table k (byte_of b i 0) (byte_of b i 1)) (rules_of b i k)
+fit_by_table b i k =
+    by (in_table k (byte_of b i 0) (byte_of b i 1)) (λ t. rw t (sym (listed b i k refl t refl))) (λ t. rw t (sym (unlisted b i k refl t)))
 
 -- a record of kind 08 is an obligation, or nothing
 eight : (c : ℕ) (t : Bool) {k : Kind} → among 1 2 c ≡ t → kind_of 8 c ≡ k → (k ≡ Obligation → ⊥) → Nothing ≡ k
@@ -174,8 +159,8 @@ duty b i f = rw (both_left (eqb (byte_of b i 0) 8) (among 1 2 (byte_of b i 1)) (
 pub fit_span : (b : List ℕ) (i : ℕ) {k : Kind} → Fit b i k → 1 ≤ span_of b i
 fit_span b i f = span_pos b i f.fields
 
-pub fit_end : (b : List ℕ) (i : ℕ) {k : Kind} {s : ℕ} → Fit b i k → s ≡ span_of b i → i < i + s
-fit_end b i f es = omega (arith, fit_span b i f)
+pub fit_inside : (b : List ℕ) (i : ℕ) (k : Kind) → true ≡ is_fit b i k → 1 ≤ span_of b i
+fit_inside b i k y = fit_span b i (fits y)
 
 -- a section's category is at most 4
 pub section_category : (b : List ℕ) (i : ℕ) → Fit b i Section → byte_of b i 4 ≤ 4
@@ -188,42 +173,24 @@ section_category b i f =
 
 -- the kinds with nothing below them
 abbrev pub leaf : Kind → Bool
-leaf PolicySet = false
-leaf Policy = false
-leaf Rule = false
-leaf Section = false
-leaf Conjunction = false
 leaf Match = true
-leaf Logic = false
-leaf Not = false
 leaf Comparison = true
-leaf Weighing = false
 leaf Obligation = true
 leaf Literal = true
 leaf Attribute = true
-leaf Operator = false
-leaf Nothing = false
+leaf _ = false
 
 alone : (s : ℕ) (rest : Bool) → both (eqb s 1) rest ≡ true → s ≡ 1
 alone s rest e = eqb-true s 1 (both_left (eqb s 1) rest e)
 
 leaf_span : (b : List ℕ) (i : ℕ) (k : Kind) → leaf k ≡ true → rules_of b i k ≡ true → span_of b i ≡ 1
 unfolding compares_ok obligation_ok literal_ok attribute_ok
-leaf_span b i PolicySet l e = no_false l
-leaf_span b i Policy l e = no_false l
-leaf_span b i Rule l e = no_false l
-leaf_span b i Section l e = no_false l
-leaf_span b i Conjunction l e = no_false l
 leaf_span b i Match l e = alone (span_of b i) _ e
-leaf_span b i Logic l e = no_false l
-leaf_span b i Not l e = no_false l
 leaf_span b i Comparison l e = alone (span_of b i) _ e
-leaf_span b i Weighing l e = no_false l
 leaf_span b i Obligation l e = alone (span_of b i) _ e
 leaf_span b i Literal l e = alone (span_of b i) _ e
 leaf_span b i Attribute l e = alone (span_of b i) _ e
-leaf_span b i Operator l e = no_false l
-leaf_span b i Nothing l e = no_false l
+leaf_span b i _ l e = no_false l
 
 -- of such a kind the span is 1
 pub fit_leaf : (b : List ℕ) (i : ℕ) {k : Kind} → Fit b i k → leaf k ≡ true → span_of b i ≡ 1

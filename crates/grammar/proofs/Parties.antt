@@ -15,7 +15,7 @@ use Rattle.fields.specs.Fields.{kind_at, field_ok, obligations_of}
 use Rattle.fields.specs.declared.Kind.{Kind}
 use Rattle.fields.specs.declared.Kind.TheVariants.{PolicySet, Policy}
 use Rattle.fields.proofs.First.{by, first_reach_all}
-use Rattle.fields.proofs.Laws.{obligations_none, obligations_more, obligations_le}
+use Rattle.fields.proofs.Laws.{obligations_none, obligations_more}
 use Rattle.placement.specs.Keeps.{AllKeep}
 use Rattle.operands.specs.Parent.{end_of}
 use Rattle.placement.specs.Place.{most_depth, kind_number, takes_of, rise_of, under_ok, rank_of, place_ok}
@@ -31,12 +31,14 @@ module _ (b : List ℕ) (d gc pc : ℕ) {i e due : ℕ} (x : Party b i e (d + 1)
   of_kind : (k : Kind) → kind_at b i ≡ k → takes_of 1 k ≡ true → rise_of 1 k ≡ 0 → rank_of k (byte_of b i 4) ≡ 5 → under_ok k gc (byte_of b i 4) ≡ true
       → operands_of b i k ≡ true → Row b i (end_of b i) e d 1 gc pc 5 5 due
   of_kind k q takes step five under wants =
-      row_other b d 1 gc pc 5 (record { kind = q; fields = x.fields }) (span_end b i (span_of b i) refl) x.within takes five (omega (arith, step)) under wants deep
+      let f : Fit b i k = record { kind = q; fields = x.fields } in
+      row_other b d 1 gc pc 5 f (span_end b i (span_of b i) refl) x.within takes five (omega (arith, step)) under wants deep
       (rw q at (x.below pc))
 
   pub row_party : Row b i (end_of b i) e d 1 gc pc 5 5 due
   row_party =
-      ⊎_elim (λ (t : kind_at b i ≡ PolicySet). of_kind PolicySet t refl refl refl refl refl) (λ (t : kind_at b i ≡ Policy). of_kind Policy t refl refl refl refl refl)
+      ⊎_elim (λ (t : kind_at b i ≡ PolicySet). of_kind PolicySet t refl refl refl refl refl)
+      (λ (t : kind_at b i ≡ Policy). of_kind Policy t refl refl refl refl refl)
       x.kind
 
 -- the whole book
@@ -93,9 +95,9 @@ party_is b {i} {top} {d} {due} {next} k f o n l x =
 -- from one policy or set among a set's children to the next
 pub party_next : (b : List ℕ) (i : ℕ) {at next d due below s : ℕ} → ((gc pc : ℕ) → Row b (i + 1) at next d 1 gc pc 0 5 due) → Party b at next (d + 1) below
     → d < most_depth → s ≡ span_of b at
-    → (at + s ≤ next) × (at < at + s) × (due + below ≤ at + s) × ((gc pc : ℕ) → Row b (i + 1) (at + s) next d 1 gc pc 0 5 (due + below))
+    → (at + s ≤ next) × (at < at + s) × ((gc pc : ℕ) → Row b (i + 1) (at + s) next d 1 gc pc 0 5 (due + below))
 party_next b i {at} {next} {d} {due} {below} {s} x p deep es =
     let q : end_of b at ≡ at + s = span_end b at s es in
     let y : (gc pc : ℕ) → Row b (i + 1) (at + s) next d 1 gc pc 0 5 (due + below) =
     λ gc pc. row_then b (x gc pc) (rw q at (row_party b d gc pc p deep)) in
-    (omega (arith, q, p.within), omega (arith, q, p.after), omega (arith, (y 0 0).duties, obligations_le b (at + s)), y)
+    (omega (arith, q, p.within), omega (arith, q, p.after), y)

@@ -11,7 +11,7 @@ use Rattle.record.specs.Bytes.{byte_of, span_of}
 use Rattle.fields.specs.Fields.{obligations_of}
 use Rattle.fields.specs.declared.Kind.{Kind}
 use Rattle.fields.proofs.First.{by, first_reach_all}
-use Rattle.fields.proofs.Laws.{obligations_more}
+use Rattle.fields.proofs.Laws.{obligations_more, obligations_le}
 use Rattle.operands.specs.Parent.{end_of}
 use Rattle.operands.specs.Operands.{value_type, two_values, operands_ok, operands_at}
 use Rattle.placement.specs.Place.{most_depth, kind_number, takes_of, rise_of, under_ok, rank_of, stands_ok, place_ok}
@@ -96,5 +96,9 @@ module _ (b : List ℕ) (d pn gc pc lo : ℕ) {i e end below due : ℕ} {k : Kin
         );
   }
 
-pub row_due : (b : List ℕ) {i j e d pn gc pc lo hi m n : ℕ} → m ≡ n → Row b i j e d pn gc pc lo hi m → Row b i j e d pn gc pc lo hi n
-row_due b q x = rw q at x
+pub row_to : (b : List ℕ) {i j k e d pn gc pc lo hi m n : ℕ} → j ≡ k → m ≡ n → Row b i j e d pn gc pc lo hi m → Row b i k e d pn gc pc lo hi n
+row_to b p q x = rw (p, q) at x
+
+-- no more obligations than records
+pub row_few : (b : List ℕ) {i j e d pn gc pc lo hi due : ℕ} → Row b i j e d pn gc pc lo hi due → due ≤ j
+row_few b {j = j} x = omega (arith, x.duties, obligations_le b j)

@@ -10,21 +10,22 @@ use lib.Dec.{ltb}
 use borrow.Author.Tests.{ltb-true, ltb-false}
 use Rattle.record.specs.Bytes.{byte_of, span_of}
 use Rattle.fields.specs.declared.Kind.{Kind}
-use Rattle.fields.specs.declared.Kind.TheVariants.{Weighing, Operator}
+use Rattle.fields.specs.declared.Kind.TheVariants.{Weighing, Literal, Attribute, Operator}
 use Rattle.fields.proofs.First.{by}
 use Rattle.operands.specs.Parent.{end_of}
 use Rattle.operands.specs.Operands.{value_type, operator_type, two_values, comparable_by}
 use Rattle.placement.specs.Place.{most_depth, kind_number, takes_of, rise_of, under_ok, rank_of, holds_values}
 use Rattle.operands.proofs.Parent.{span_end}
 use Rattle.operands.proofs.Operands.{two_values_lem}
-use Rattle.grammar.specs.Row.{Fit, Row, Value, Operands}
+use Rattle.grammar.specs.Row.{Fit, Row, Value, Operands, Condition}
 use Rattle.grammar.proofs.Fits.{leaf, fit_span, fit_leaf}
 use Rattle.grammar.proofs.Rows.{operands_of, row_none, row_then}
-use Rattle.grammar.proofs.Parts.{Condition, row_by_kind, condition_is}
+use Rattle.grammar.proofs.Parts.{row_by_kind, condition_is}
 
 -- a value by its kind, and what is below it
-module _ (b : List ℕ) {i e d t : ℕ} {k : Kind} (f : Fit b i k) (deep : d < most_depth) (type : value_type b i ≡ t) (takes : (pn : ℕ) → takes_of pn k ≡ holds_values pn)
-    (step : (pn : ℕ) → rise_of pn k ≡ 0) (five : rank_of k (byte_of b i 4) ≡ 5) (under : (g : ℕ) → under_ok k g (byte_of b i 4) ≡ true) (wants : operands_of b i k ≡ true) where
+module _ (b : List ℕ) {i e d t : ℕ} {k : Kind} (f : Fit b i k) (deep : d < most_depth) (type : value_type b i ≡ t)
+    (takes : (pn : ℕ) → takes_of pn k ≡ holds_values pn) (step : (pn : ℕ) → rise_of pn k ≡ 0) (five : rank_of k (byte_of b i 4) ≡ 5)
+    (under : (g : ℕ) → under_ok k g (byte_of b i 4) ≡ true) (wants : operands_of b i k ≡ true) where
   pub value_is : {next : ℕ} → next ≡ i + span_of b i → next ≤ e → ((m : ℕ) → i < m → m < next → end_of b m ≤ next)
       → ((gc pc : ℕ) → Row b (i + 1) next next (d + 1) (kind_number k) gc pc 0 5 0) → Value b i next e d t
   value_is ends upto whole x =
@@ -39,9 +40,17 @@ module _ (b : List ℕ) {i e d t : ℕ} {k : Kind} (f : Fit b i k) (deep : d < m
       }
 
   -- with nothing below it
-  pub leaf_value : leaf k ≡ true → i < e → Value b i (i + 1) e d t
+  leaf_value : leaf k ≡ true → i < e → Value b i (i + 1) e d t
   leaf_value l h =
       value_is (ap (λ (s : ℕ). i + s) (sym (fit_leaf b i f l))) (omega arith) (λ m a z. absurd (omega arith)) (λ gc pc. row_none b refl (omega arith))
+
+-- a literal, and an attribute
+module _ (b : List ℕ) {i e d t : ℕ} where
+  pub literal_value : Fit b i Literal → d < most_depth → i < e → value_type b i ≡ t → Value b i (i + 1) e d t
+  literal_value f deep h type = leaf_value b f deep type (λ p. refl) (λ p. refl) refl (λ g. refl) refl refl h
+
+  pub attribute_value : Fit b i Attribute → d < most_depth → i < e → value_type b i ≡ t → Value b i (i + 1) e d t
+  attribute_value f deep h type = leaf_value b f deep type (λ p. refl) (λ p. refl) refl (λ g. refl) refl refl h
 
 -- two values, of which the first begins behind record i, and the second ends where it does
 pub operands_are : (b : List ℕ) {i next e d t second r : ℕ} → next ≡ i + span_of b i → next ≤ e → Value b (i + 1) second next (d + 1) t → (second ≡ next → ⊥)

@@ -1,13 +1,13 @@
 -- A row of records that keep every rule, as one pass over a sound book finds it: `src/lib.rt`. Assumes nothing.
 use Rattle.std.specs.Prelude.{ℕ, ◌+◌, ◌≤◌, ◌<◌, ◌≡◌, Bool, true, List, ◌⊎◌, eqb}
-use Rattle.record.specs.Choose.{both}
+use Rattle.record.specs.Choose.{both, among}
 use Rattle.record.specs.Bytes.{byte_of}
 use Rattle.fields.specs.Fields.{kind_at, field_ok, obligations_of}
 use Rattle.fields.specs.declared.Kind.{Kind}
 use Rattle.fields.specs.declared.Kind.TheVariants.{PolicySet, Policy}
 use Rattle.operands.specs.Parent.{end_of}
 use Rattle.operands.specs.Operands.{value_type, two_values}
-use Rattle.placement.specs.Place.{kind_number, holds_values, place_ok}
+use Rattle.placement.specs.Place.{kind_number, holds_values, holds_conditions, single_of, place_ok}
 use Rattle.placement.specs.Walk.{Walk}
 use Rattle.placement.specs.Keeps.{AllKeep}
 
@@ -53,6 +53,30 @@ pub record Operands (b : List ℕ) (i r e d t : ℕ) : Type 0 where
   pub whole : (m : ℕ) → i < m → m < r → end_of b m ≤ r
   pub two : two_values b i t ≡ true
   pub row : (pn gc pc : ℕ) → holds_values pn ≡ true → Row b (i + 1) r r (d + 1) pn gc pc 0 5 0
+
+-- the condition at record i ends at r, and keeps every rule below a parent that takes conditions, which ends at e and has depth d
+pub record Condition (b : List ℕ) (i r e d : ℕ) : Type 0 where
+  pub after : i < r
+  pub upto : r ≤ e
+  pub row : (pn gc pc lo : ℕ) → holds_conditions pn ≡ true → lo + single_of pn ≤ 5 → Row b i r e d pn gc pc lo 5 0
+
+-- the records from i on and below r are the sections below a rule, a policy or a set, which ends at e and has depth d
+pub record Sections (b : List ℕ) (i r e d : ℕ) : Type 0 where
+  pub upto : r ≤ e
+  pub row : (pn gc pc : ℕ) → among 1 3 pn ≡ true → Row b i r e d pn gc pc 0 4 0
+
+-- the same of the rules below a policy
+pub record Rules (b : List ℕ) (i r e d : ℕ) : Type 0 where
+  pub upto : r ≤ e
+  pub row : (gc pc : ℕ) → Row b i r e d 2 gc pc 5 5 0
+
+-- the records from i on, and below the end e of their parent, which has depth d, are `due` obligations below a policy or a set
+pub record Duties (b : List ℕ) (i e d due : ℕ) : Type 0 where
+  pub row : (pn gc pc : ℕ) → among 1 2 pn ≡ true → Row b i e e d pn gc pc 6 6 due
+
+-- the records from i on, and below the end e of their parent, which has depth d, are the parts of a policy, `due` of them obligations
+pub record PolicyParts (b : List ℕ) (i e d due : ℕ) : Type 0 where
+  pub row : (gc pc : ℕ) → Row b i e e d 2 gc pc 0 6 due
 
 -- the policy or set at record i ends where `top` is or before, keeps its field rules, and what is below it keeps all rules where it has the depth d; `due`
 -- obligations are below it

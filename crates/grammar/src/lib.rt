@@ -3,47 +3,43 @@
 
 mod kept;
 
-ghost use Rattle.std.specs.Prelude.{◌≡◌, true, ℕ, ◌+◌, ◌*◌, ◌-◌, ◌<◌, ◌≤◌, length};
-ghost use Rattle.record.specs.Choose.{among};
+ghost use Rattle.std.specs.Prelude.{◌≡◌, IsTrue, IfSome, ℕ, ◌+◌, ◌*◌, ◌<◌, ◌≤◌, length};
 ghost use Rattle.record.specs.Bytes.{size};
-ghost use Rattle.placement.specs.Place.{most_depth, holds_conditions, single_of};
-ghost use Rattle.grammar.specs.Row.{Row, Value, Operands, Party, Clean};
+ghost use Rattle.placement.specs.Place.{most_depth};
+ghost use Rattle.grammar.specs.Row.{Row, Sections, Value, Operands, Condition, Rules, Duties, PolicyParts, Party, Clean};
 
+use fields::Kind;
 use placement::MOST_DEPTH;
+
+// Kept: `book`, `end` and `depth` side by side: not inlined, a struct goes by pointer (`operands_ok` with one took 308 instructions a call in place of 279).
+// Kept: loops by hand, since `Siblings` cuts a span at its parent's end, and here one that runs past it is refused.
 
 // Whether all records from `from` on are matches of this category.
 fn matches(book: &[u8], from: usize, end: usize, category: usize) -> bool
     requires { (from ≤ end) × (end * size ≤ length book.now) }
-    ensures { result ≡ true → (d pc : ℕ) → d < most_depth → Row book.now from end end d 5 category pc 5 5 0 }
+    ensures { IsTrue result → (d pc : ℕ) → d < most_depth → Row book.now from end end d 5 category pc 5 5 0 }
 {
-    let mut i = from;
-    while i < end {
-        if !kept::is_match(book, i) {
+    for i in from..end {
+        if !kept::is_fit(book, i, Kind::Match) || record::byte(book, i, 4) != category {
             return false;
         }
-        if record::byte(book, i, 4) != category {
-            return false;
-        }
-        i += 1;
     }
     true
 }
 
 // Whether all are conjunctions of such matches.
+#[tactic(auto, using(crate::proofs::Fits::fit_inside))]
 fn conjunctions(book: &[u8], from: usize, end: usize, category: usize) -> bool
     requires { (from ≤ end) × (end * size ≤ length book.now) }
-    ensures { result ≡ true → (d gc : ℕ) → d + 1 < most_depth → Row book.now from end end d 4 gc category 5 5 0 }
+    ensures { IsTrue result → (d gc : ℕ) → d + 1 < most_depth → Row book.now from end end d 4 gc category 5 5 0 }
 {
     let mut i = from;
     while i < end {
-        if !kept::is_conjunction(book, i) {
-            return false;
-        }
         let next = i + record::span(book, i);
-        if end < next {
-            return false;
-        }
-        if !matches(book, i + 1, next, category) {
+        if !kept::is_fit(book, i, Kind::Conjunction)
+            || end < next
+            || !matches(book, i + 1, next, category)
+        {
             return false;
         }
         i = next;
@@ -51,296 +47,223 @@ fn conjunctions(book: &[u8], from: usize, end: usize, category: usize) -> bool
     true
 }
 
-// Where the sections end that children begin with; 0 where one is not sound. `end` and `depth` are their parent's, here and below.
-fn section_row(book: &[u8], from: usize, end: usize, depth: usize) -> usize
+// Where the sections end that children begin with, if each is sound. `end` and `depth` are their parent's, here and below.
+#[tactic(auto, using(crate::proofs::Fits::fit_inside))]
+fn sections(book: &[u8], from: usize, end: usize, depth: usize) -> Option<usize>
     requires { (from ≤ end) × (end * size ≤ length book.now) × (depth ≤ most_depth) }
-    ensures { 0 < result → (from ≤ result) × (result ≤ end)
-        × ((pn gc pc : ℕ) → among 1 3 pn ≡ true → Row book.now from result end depth pn gc pc 0 4 0) }
+    ensures { IfSome result (λ to. Sections book.now from to end depth) }
 {
     let mut i = from;
     let mut last: usize = 0;
-    while i < end {
-        if record::byte(book, i, 0) != 4 {
-            return i;
-        }
-        if !kept::is_section(book, i) {
-            return 0;
-        }
+    while i < end && kept::is_fit(book, i, Kind::Section) {
         let category = record::byte(book, i, 4);
-        if category <= last {
-            return 0;
-        }
         let next = i + record::span(book, i);
-        if end < next {
-            return 0;
-        }
         // a conjunction and a match are below every section
-        if MOST_DEPTH < depth + 3 {
-            return 0;
-        }
-        if !conjunctions(book, i + 1, next, category) {
-            return 0;
+        if category <= last
+            || end < next
+            || MOST_DEPTH < depth + 3
+            || !conjunctions(book, i + 1, next, category)
+        {
+            return None;
         }
         last = category;
         i = next;
     }
-    i
+    Some(i)
 }
 
 // The same of a rule's children, which mostly begin with none: that needs no call.
-fn sections(book: &[u8], from: usize, end: usize, depth: usize) -> usize
+fn rule_sections(book: &[u8], from: usize, end: usize, depth: usize) -> Option<usize>
     requires { (from ≤ end) × (end * size ≤ length book.now) × (depth ≤ most_depth) }
-    ensures { 0 < result → (from ≤ result) × (result ≤ end)
-        × ((pn gc pc : ℕ) → among 1 3 pn ≡ true → Row book.now from result end depth pn gc pc 0 4 0) }
+    ensures { IfSome result (λ to. Sections book.now from to end depth) }
 {
-    if from == end {
-        return from;
+    if from == end || !kept::is_fit(book, from, Kind::Section) {
+        return Some(from);
     }
-    if record::byte(book, from, 0) != 4 {
-        return from;
-    }
-    section_row(book, from, end, depth)
+    sections(book, from, end, depth)
 }
 
-// Where the value of type `kind` at record i ends; 0 where it is not sound.
+// Where the value of type `sort` at record i ends, if it is sound.
+// Kept: `sort` is a number, as `operands::value_type` gives it.
 #[cycle(operands_value)]
-fn value(book: &[u8], i: usize, end: usize, depth: usize, kind: usize) -> usize
+fn value(book: &[u8], i: usize, end: usize, depth: usize, sort: usize) -> Option<usize>
     requires { (i < end) × (end * size ≤ length book.now) × (depth ≤ most_depth) }
-    ensures { 0 < result → Value book.now i result end depth kind }
+    ensures { IfSome result (λ to. Value book.now i to end depth sort) }
 {
-    if MOST_DEPTH <= depth {
-        return 0;
+    if MOST_DEPTH <= depth || operands::value_type(book, i) != sort {
+        return None;
     }
-    if operands::value_type(book, i) != kind {
-        return 0;
+    if kept::is_fit(book, i, Kind::Literal) || kept::is_fit(book, i, Kind::Attribute) {
+        return Some(i + 1);
     }
-    if kept::is_literal(book, i) {
-        return i + 1;
+    if !kept::is_fit(book, i, Kind::Operator) {
+        return None;
     }
-    if kept::is_attribute(book, i) {
-        return i + 1;
-    }
-    if !kept::is_operator(book, i) {
-        return 0;
-    }
-    operands(book, i, end, depth, kind)
+    operands(book, i, end, depth, sort)
 }
 
-// Where record i ends, below which there are two values of type `kind` and no more; 0 where it is otherwise, or one of them is not sound.
+// Where record i ends, if two sound values of type `sort` are below it and no more.
 #[cycle(operands_value)]
-fn operands(book: &[u8], i: usize, end: usize, depth: usize, kind: usize) -> usize
+fn operands(book: &[u8], i: usize, end: usize, depth: usize, sort: usize) -> Option<usize>
     requires { (i < end) × (end * size ≤ length book.now) × (depth < most_depth) }
-    ensures { 0 < result → Operands book.now i result end depth kind }
+    ensures { IfSome result (λ to. Operands book.now i to end depth sort) }
 {
     let next = i + record::span(book, i);
-    if end < next {
-        return 0;
+    if end < next || next <= i + 1 {
+        return None;
     }
-    if next <= i + 1 {
-        return 0;
+    let second = value(book, i + 1, next, depth + 1, sort)?;
+    if second == next || value(book, second, next, depth + 1, sort)? != next {
+        return None;
     }
-    let second = value(book, i + 1, next, depth + 1, kind);
-    if second == 0 {
-        return 0;
-    }
-    if second == next {
-        return 0;
-    }
-    if value(book, second, next, depth + 1, kind) != next {
-        return 0;
-    }
-    next
+    Some(next)
 }
 
-// Where the comparison of two values at record i ends; 0 where there is none, or it is not sound.
-fn weighing(book: &[u8], i: usize, end: usize, depth: usize) -> usize
+// Where the comparison of two values at record i ends, if there is one, and it is sound.
+fn weighing(book: &[u8], i: usize, end: usize, depth: usize) -> Option<usize>
     requires { (i < end) × (end * size ≤ length book.now) × (depth < most_depth) }
-    ensures { 0 < result → (i < result) × (result ≤ end)
-        × ((pn gc pc lo : ℕ) → holds_conditions pn ≡ true → lo + single_of pn ≤ 5 → Row book.now i result end depth pn gc pc lo 5 0) }
+    ensures { IfSome result (λ to. Condition book.now i to end depth) }
 {
-    if !kept::is_weighing(book, i) {
-        return 0;
-    }
     // there may be no next record
-    if end == i + 1 {
-        return 0;
+    if !kept::is_fit(book, i, Kind::Weighing) || end == i + 1 {
+        return None;
     }
-    let kind = operands::value_type(book, i + 1);
-    if !operands::comparable(kind, record::byte(book, i, 1)) {
-        return 0;
+    let sort = operands::value_type(book, i + 1);
+    if !operands::comparable(sort, record::byte(book, i, 1)) {
+        return None;
     }
-    operands(book, i, end, depth, kind)
+    operands(book, i, end, depth, sort)
 }
 
-// Where the condition at record i ends; 0 where it is not sound.
+// Where the condition at record i ends, if it is sound.
 #[cycle(condition_joined)]
-fn condition(book: &[u8], i: usize, end: usize, depth: usize) -> usize
+fn condition(book: &[u8], i: usize, end: usize, depth: usize) -> Option<usize>
     requires { (i < end) × (end * size ≤ length book.now) × (depth ≤ most_depth) }
-    ensures { 0 < result → (i < result) × (result ≤ end)
-        × ((pn gc pc lo : ℕ) → holds_conditions pn ≡ true → lo + single_of pn ≤ 5 → Row book.now i result end depth pn gc pc lo 5 0) }
+    ensures { IfSome result (λ to. Condition book.now i to end depth) }
 {
     if MOST_DEPTH <= depth {
-        return 0;
+        return None;
     }
-    if kept::is_comparison(book, i) {
-        return i + 1;
+    if kept::is_fit(book, i, Kind::Comparison) {
+        return Some(i + 1);
     }
     joined(book, i, end, depth)
 }
 
 // The same of a condition that has parts: and, or, not, two values. It stands alone so that a comparison costs no call.
 #[cycle(condition_joined)]
-fn joined(book: &[u8], i: usize, end: usize, depth: usize) -> usize
+#[tactic(auto, using(crate::proofs::Parts::not_span))]
+fn joined(book: &[u8], i: usize, end: usize, depth: usize) -> Option<usize>
     requires { (i < end) × (end * size ≤ length book.now) × (depth < most_depth) }
-    ensures { 0 < result → (i < result) × (result ≤ end)
-        × ((pn gc pc lo : ℕ) → holds_conditions pn ≡ true → lo + single_of pn ≤ 5 → Row book.now i result end depth pn gc pc lo 5 0) }
+    ensures { IfSome result (λ to. Condition book.now i to end depth) }
 {
     let next = i + record::span(book, i);
     if end < next {
-        return 0;
+        return None;
     }
-    if kept::is_not(book, i) {
-        if condition(book, i + 1, next, depth + 1) != next {
-            return 0;
+    if kept::is_fit(book, i, Kind::Not) {
+        if condition(book, i + 1, next, depth + 1)? != next {
+            return None;
         }
-        return next;
+        return Some(next);
     }
-    if !kept::is_logic(book, i) {
+    if !kept::is_fit(book, i, Kind::Logic) {
         return weighing(book, i, end, depth);
     }
     let mut at = i + 1;
     while at < next {
-        let part = condition(book, at, next, depth + 1);
-        if part == 0 {
-            return 0;
-        }
-        at = part;
+        at = condition(book, at, next, depth + 1)?;
     }
-    next
+    Some(next)
 }
 
 // Whether sections, and at most one condition, are all that is below a rule.
 fn rule_parts(book: &[u8], from: usize, end: usize, depth: usize) -> bool
     requires { (from ≤ end) × (end * size ≤ length book.now) × (depth ≤ most_depth) }
-    ensures { result ≡ true → (gc pc : ℕ) → Row book.now from end end depth 3 gc pc 0 5 0 }
+    ensures { IsTrue result → (gc pc : ℕ) → Row book.now from end end depth 3 gc pc 0 5 0 }
 {
-    let at = sections(book, from, end, depth);
-    if at == 0 {
+    let Some(at) = rule_sections(book, from, end, depth) else {
         return false;
-    }
-    if at == end {
-        return true;
-    }
-    condition(book, at, end, depth) == end
+    };
+    at == end || condition(book, at, end, depth) == Some(end)
 }
 
-// Where the rules end that a policy's children go on with; 0 where one is not sound.
-fn rules(book: &[u8], from: usize, end: usize, depth: usize) -> usize
+// Where the rules end that a policy's children go on with, if each is sound.
+#[tactic(auto, using(crate::proofs::Fits::fit_inside))]
+fn rules(book: &[u8], from: usize, end: usize, depth: usize) -> Option<usize>
     requires { (from ≤ end) × (end * size ≤ length book.now) × (depth ≤ most_depth) }
-    ensures { 0 < result → (from ≤ result) × (result ≤ end) × ((gc pc : ℕ) → Row book.now from result end depth 2 gc pc 5 5 0) }
+    ensures { IfSome result (λ to. Rules book.now from to end depth) }
 {
     let mut i = from;
-    while i < end {
-        if record::byte(book, i, 0) != 3 {
-            return i;
-        }
-        if !kept::is_rule(book, i) {
-            return 0;
-        }
+    while i < end && kept::is_fit(book, i, Kind::Rule) {
         let next = i + record::span(book, i);
-        if end < next {
-            return 0;
-        }
-        if MOST_DEPTH <= depth {
-            return 0;
-        }
-        if !rule_parts(book, i + 1, next, depth + 1) {
-            return 0;
+        if end < next || MOST_DEPTH <= depth || !rule_parts(book, i + 1, next, depth + 1) {
+            return None;
         }
         i = next;
     }
-    i
+    Some(i)
 }
 
-// Where all records from `from` on are obligations: one more than `due` and they are together; else 0.
-fn own(book: &[u8], from: usize, end: usize, depth: usize, due: usize) -> usize
-    requires { (from ≤ end) × (end * size ≤ length book.now) × (due ≤ from) × (depth ≤ most_depth) }
-    ensures { (result ≤ end + 1) × (0 < result → (result ≡ due + (end - from) + 1)
-        × ((pn gc pc : ℕ) → among 1 2 pn ≡ true → Row book.now from end end depth pn gc pc 6 6 (end - from))) }
-{
-    let mut i = from;
-    while i < end {
-        if MOST_DEPTH <= depth {
-            return 0;
-        }
-        if !kept::is_obligation(book, i) {
-            return 0;
-        }
-        i += 1;
-    }
-    due + (end - from) + 1
-}
-
-// One more than the obligations below a policy; 0 where what is below it is not sound.
-fn policy_parts(book: &[u8], from: usize, end: usize, depth: usize) -> usize
+// How many records there are from `from` on, if all are obligations.
+fn own(book: &[u8], from: usize, end: usize, depth: usize) -> Option<usize>
     requires { (from ≤ end) × (end * size ≤ length book.now) × (depth ≤ most_depth) }
-    ensures { (result ≤ end + 1) × (0 < result → (gc pc : ℕ) → Row book.now from end end depth 2 gc pc 0 6 (result - 1)) }
+    ensures { IfSome result (Duties book.now from end depth) }
 {
-    let first = section_row(book, from, end, depth);
-    if first == 0 {
-        return 0;
+    for i in from..end {
+        if MOST_DEPTH <= depth || !kept::is_fit(book, i, Kind::Obligation) {
+            return None;
+        }
     }
-    let last = rules(book, first, end, depth);
-    if last == 0 {
-        return 0;
-    }
-    own(book, last, end, depth, 0)
+    Some(end - from)
 }
 
-// One more than the obligations below the policy or set at record i, which has this depth; 0 where it is not sound.
-fn party(book: &[u8], i: usize, top: usize, depth: usize) -> usize
+// The number of obligations below a policy, if what is below it is sound.
+fn policy_parts(book: &[u8], from: usize, end: usize, depth: usize) -> Option<usize>
+    requires { (from ≤ end) × (end * size ≤ length book.now) × (depth ≤ most_depth) }
+    ensures { IfSome result (PolicyParts book.now from end depth) }
+{
+    let first = sections(book, from, end, depth)?;
+    let last = rules(book, first, end, depth)?;
+    own(book, last, end, depth)
+}
+
+// The number of obligations below the policy or set at record i, which has this depth, if it is sound.
+#[tactic(auto, using(crate::proofs::Fits::fit_inside))]
+fn party(book: &[u8], i: usize, top: usize, depth: usize) -> Option<usize>
     requires { (i < top) × (top * size ≤ length book.now) × (depth ≤ most_depth) }
-    ensures { (result ≤ top + 1) × (0 < result → Party book.now i top depth (result - 1)) }
+    ensures { IfSome result (Party book.now i top depth) }
 {
     let next = i + record::span(book, i);
     if top < next {
-        return 0;
+        return None;
     }
-    if kept::is_policy(book, i) {
+    if kept::is_fit(book, i, Kind::Policy) {
         return policy_parts(book, i + 1, next, depth);
     }
-    if !kept::is_set(book, i) {
-        return 0;
+    if !kept::is_fit(book, i, Kind::PolicySet) {
+        return None;
     }
-    let mut at = section_row(book, i + 1, next, depth);
-    if at == 0 {
-        return 0;
-    }
+    let mut at = sections(book, i + 1, next, depth)?;
     let mut due: usize = 0;
-    while at < next {
-        if 2 < record::byte(book, at, 0) {
-            return own(book, at, next, depth, due);
-        }
-        if MOST_DEPTH <= depth {
-            return 0;
-        }
-        let below = party(book, at, next, depth + 1);
-        if below == 0 {
-            return 0;
-        }
-        due += below - 1;
+    // what is no sound policy or set is an obligation, or unsound
+    while at < next && depth < MOST_DEPTH {
+        let Some(below) = party(book, at, next, depth + 1) else {
+            break;
+        };
+        due += below;
         at += record::span(book, at);
     }
-    due + 1
+    Some(due + own(book, at, next, depth)?)
 }
 
-// One more than the obligations of a sound book of n records; 0 for another book.
-pub fn obligations(book: &[u8], n: usize) -> usize
+// The number of obligations of a book of n records, if it is sound.
+pub fn obligations(book: &[u8], n: usize) -> Option<usize>
     requires { (0 < n) × (length book.now ≡ n * size) }
-    ensures { 0 < result → Clean book.now n (result - 1) }
+    ensures { IfSome result (Clean book.now n) }
 {
     if record::span(book, 0) != n {
-        return 0;
+        return None;
     }
     party(book, 0, n, 1)
 }

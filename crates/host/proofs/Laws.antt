@@ -1,4 +1,5 @@
 -- Laws of the C host's call. Assumes nothing.
+use Rattle.std.specs.Prelude.{Err}
 use mathlib.Core.Path.{◌≡◌, refl, sym, ap, ◌∙◌}
 use mathlib.Core.List.{List, [], ◌∷◌, ◌++◌, append_assoc}
 use Prim.Native.Nat.{ℕ, suc, ◌+◌, ◌-◌, ◌*◌, ◌/◌, ◌%◌, ◌≤◌, ◌<◌, min}
@@ -9,9 +10,7 @@ use lib.Seq.{length-take-le, take-suc, drop-cons, append_snoc, set_at, take_at}
 use Rattle.record.specs.Bytes.{most_records}
 use Rattle.record.specs.declared.Refusal.{Refusal}
 use Rattle.meaning.specs.declared.Verdict.{Verdict}
-use Rattle.decider.specs.Outcome.{duties_of, outcome_of, out_of}
-use Rattle.decider.specs.declared.Outcome.{Outcome}
-use Rattle.decider.specs.declared.Outcome.TheVariants.{Decided, Refused}
+use Rattle.decider.specs.Outcome.{duties_of, outcome_of, out_of, Outcome, decided_with}
 use Rattle.decider.proofs.Whole.{most_room, decided_puts}
 use Rattle.host.specs.Host.{host_number, pairs_of, host_outcome, host_out}
 
@@ -56,19 +55,19 @@ unfolding host_outcome
 same_outcome b q ps l e = rw e (most_room b q (length l / 2))
 
 module _ (b q ps l : List ℕ) {o : Outcome} (room : length ps ≡ min (length l / 2) most_records) (eo : o ≡ outcome_of b q (length ps)) where
-  pub host_refused : {r : Refusal} {x : ℕ} → o ≡ Refused r → x ≡ host_number (Refused r) → (x ≡ host_number (host_outcome b q l)) × (l ≡ host_out b q l)
+  pub host_refused : {r : Refusal} {x : ℕ} → o ≡ Err r → x ≡ host_number (Err r) → (x ≡ host_number (host_outcome b q l)) × (l ≡ host_out b q l)
   unfolding host_out
-  host_refused e ex = let w : host_outcome b q l ≡ Refused _ = sym (same_outcome b q ps l room) ∙ sym eo ∙ e in (rw w ex, rw w)
+  host_refused e ex = let w : host_outcome b q l ≡ Err _ = sym (same_outcome b q ps l room) ∙ sym eo ∙ e in (rw w ex, rw w)
 
-  module _ {e : List ℕ} {d : Verdict} {n : ℕ} (ed : o ≡ Decided d n) (ee : e ≡ out_of b q ps) (el : length e ≡ length ps) where
+  module _ {e : List ℕ} {d : Verdict} {n : ℕ} (ed : o ≡ decided_with d n) (ee : e ≡ out_of b q ps) (el : length e ≡ length ps) where
     pub host_fits : (n ≤ length e) × (n * 2 ≤ length l) × (n ≤ most_records)
     host_fits = let w = decided_puts b q ps eo ed ee el in (w.0, omega (arith, w.0, el, room), omega (arith, w.0, el, room))
 
     pub host_decided : {f g : List ℕ} {x : ℕ} → f ≡ pairs_of (take n e) ++ drop (n * 2) l → length f ≡ length l → g ≡ take (n * 2) f ++ replicate (length f - n * 2) 0
-        → x ≡ host_number (Decided d n) → (x ≡ host_number (host_outcome b q l)) × (g ≡ host_out b q l)
+        → x ≡ host_number (decided_with d n) → (x ≡ host_number (host_outcome b q l)) × (g ≡ host_out b q l)
     unfolding host_out
     host_decided {f} ef lf eg ex =
-        let w : host_outcome b q l ≡ Decided d n = sym (same_outcome b q ps l room) ∙ sym eo ∙ ed in
+        let w : host_outcome b q l ≡ decided_with d n = sym (same_outcome b q ps l room) ∙ sym eo ∙ ed in
         let p = decided_puts b q ps eo ed ee el in
         let t : take n e ≡ duties_of b q = p.1 in
         let c : length (pairs_of (duties_of b q)) ≡ n * 2 = pairs_length (duties_of b q) ∙ ap (λ z. z * 2) (sym (ap length t) ∙ length-take-le n e p.0) in

@@ -1,16 +1,14 @@
 -- What the C host gets: one number, and obligations as byte pairs. Document 01, "The C host". Assumes nothing.
-use Rattle.std.specs.Prelude.{ℕ, ◌+◌, ◌*◌, ◌/◌, ◌%◌, List, [], ◌∷◌, length}
+use Rattle.std.specs.Prelude.{ℕ, ◌+◌, ◌*◌, ◌/◌, ◌%◌, List, [], ◌∷◌, length, Err, Ok}
 use Rattle.record.specs.Refusals.{refusal_number}
 use Rattle.meaning.specs.Meaning.{decision_in}
 use Rattle.meaning.specs.Numbers.{number_of, code_number}
-use Rattle.decider.specs.Outcome.{duties_of, outcome_of, filled}
-use Rattle.decider.specs.declared.Outcome.{Outcome}
-use Rattle.decider.specs.declared.Outcome.TheVariants.{Decided, Refused}
+use Rattle.decider.specs.Outcome.{duties_of, outcome_of, filled, Outcome, decided_with}
 
 -- decision + 256 x count + 2^40 x code, or a refusal as one number
 abbrev pub host_number : Outcome → ℕ
-host_number (Decided v n) = number_of (decision_in v) + 256 * n + 1099511627776 * code_number v
-host_number (Refused r) = refusal_number r
+host_number (Ok d) = number_of (decision_in d.verdict) + 256 * d.count + 1099511627776 * code_number d.verdict
+host_number (Err r) = refusal_number r
 
 -- obligations as byte pairs, big-endian
 unfoldable pub pairs_of : List ℕ → List ℕ

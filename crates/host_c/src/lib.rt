@@ -1,4 +1,5 @@
 // The static library of `host`: its call under the name and by the calling convention that a C host links.
+// Kept: a wrapper, since the C name and calling convention stand here alone, and docs/CONTRACTS.md names the call of `host`.
 #![tactic(auto)]
 
 ghost use Rattle.std.specs.Prelude.{◌≡◌};

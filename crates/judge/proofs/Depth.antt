@@ -16,8 +16,7 @@ use Rattle.placement.specs.Place.{depth_of}
 use Rattle.fields.specs.First.{count_below}
 use Rattle.judge.specs.Sound.{Nested}
 use Rattle.placement.specs.Keeps.{Keeps}
-use Rattle.judge.specs.Judge.{judge_of}
-use Rattle.judge.specs.declared.Judged.TheVariants.{Accepted}
+use Rattle.judge.specs.Judge.{judge_of, accepted_with}
 use Rattle.judge.proofs.Exactly.{accepted_keeps}
 use Rattle.judge.proofs.Sound.{kept_nests}
 use Rattle.placement.proofs.Laws.{depth_under}
@@ -72,7 +71,7 @@ module _ (b : List ℕ) (n : ℕ) (w : Nested b n) where
       let z = deep (n - 1) 0 1 (n - 1) (omega arith) (omega arith) (omega (arith, e, h)) h (λ j x y. absurd (omega (arith, x, y))) in
       omega (arith, z, d)
 
-pub accepted_deep : (b : List ℕ) (n o : ℕ) → judge_of b ≡ Accepted n o → height (forest b 1 (n - 1)) ≤ 15
+pub accepted_deep : (b : List ℕ) (n o : ℕ) → judge_of b ≡ accepted_with n o → height (forest b 1 (n - 1)) ≤ 15
 accepted_deep b n o e =
     let k : Keeps b n = (accepted_keeps b n o e).0 in
     let d = book_deep b n (kept_nests b n k) k.sized.some in

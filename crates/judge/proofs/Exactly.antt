@@ -1,5 +1,6 @@
 -- A book's judgement, exactly when: the theorems of `specs/Exactly.antt`. Assumes nothing.
-use mathlib.Core.Path.{◌≡◌, refl, sym, ◌∙◌}
+use Rattle.std.specs.Prelude.{Ok, Err}
+use mathlib.Core.Path.{◌≡◌, refl, sym, ap, ◌∙◌}
 use mathlib.Core.Bool.{Bool}
 use mathlib.Core.List.{List}
 use Prim.Native.Nat.{ℕ, ◌+◌, ◌*◌, ◌/◌, ◌%◌, ◌≤◌, ◌<◌}
@@ -14,16 +15,18 @@ use Rattle.fields.specs.First.{first_from}
 use Rattle.fields.specs.Fields.{field_ok, obligations_of}
 use Rattle.fields.proofs.First.{by, first_before, first_fails, first_is, first_reach}
 use Rattle.placement.specs.Place.{place_ok, broken_at}
-use Rattle.judge.specs.Judge.{first_field, first_place, judge_records, judge_of}
+use Rattle.judge.specs.Judge.{first_field, first_place, judge_records, judge_of, Judged, accepted_with}
+use Rattle.judge.specs.declared.Accepted.{Accepted}
 use Rattle.placement.specs.Keeps.{AllKeep, FirstToBreak, Sized, Keeps}
 use Rattle.judge.specs.Exactly.{KeptTo, Breaks, empty, cut, many, field, top, past, misplaced, deep, AcceptedKeeps, KeptIsAccepted, RefusedBreaks, BrokenIsRefused}
-use Rattle.judge.specs.declared.Judged.{Judged}
-use Rattle.judge.specs.declared.Judged.TheVariants.{Accepted, Refused}
 use Rattle.judge.proofs.Answers.{some_ltb, none_ltb}
 use Rattle.judge.proofs.Broken.{nine, ten, eleven, twelve, broken_breaks}
 
-absurd_judged : {A : Type 0} {n m : ℕ} {r : Refusal} → Accepted n m ≡ Refused r → A
+absurd_judged : {A : Type 0} {n m : ℕ} {r : Refusal} → accepted_with n m ≡ Err r → A
 absurd_judged e = let z : ◌≡◌ {A = ℕ} 0 1 = cc in absurd (omega arith)
+
+pub same_accepted : {a c : Accepted} → ◌≡◌ {A = Judged} (Ok a) (Ok c) → a ≡ c
+same_accepted e = cc
 
 -- one of n fails, or all pass
 pub first_break : (f : ℕ → Bool) (n : ℕ) → first_from f 0 n < n → FirstToBreak f n (first_from f 0 n)
@@ -41,8 +44,8 @@ sized_is b h e l = record { bytes = omega arith; some = omega arith; most = omeg
 
 -- what is answered of n records
 data Answer (b : List ℕ) (j : Judged) : Type 0 where
-  accepted : (n : ℕ) → j ≡ Accepted n (obligations_of b n) → Keeps b n → Answer b j
-  refused : (r : Refusal) → j ≡ Refused r → Breaks b r → Answer b j
+  accepted : (n : ℕ) → j ≡ accepted_with n (obligations_of b n) → Keeps b n → Answer b j
+  refused : (r : Refusal) → j ≡ Err r → Breaks b r → Answer b j
 
 records_answer : (b : List ℕ) (n : ℕ) → Sized b n → Answer b (judge_records b n)
 unfolding judge_records
@@ -72,9 +75,9 @@ accepted_keeps b n m e = go (answer b)
   where
     go : Answer b (judge_of b) → Keeps b n × (m ≡ obligations_of b n)
     go (accepted k x w) =
-        let y : Accepted n m ≡ Accepted k (obligations_of b k) = sym e ∙ x in
-        let z : k ≡ n = cc in
-        let v : m ≡ obligations_of b k = cc in
+        let y = same_accepted (sym e ∙ x) in
+        let z : k ≡ n = sym (ap (λ (a : Accepted). a.records) y) in
+        let v : m ≡ obligations_of b k = ap (λ (a : Accepted). a.obligations) y in
         (rw z at w, rw z at v)
     go (refused r x w) = absurd_judged (sym e ∙ x)
 
@@ -84,7 +87,7 @@ refused_breaks b r e = go (answer b)
     go : Answer b (judge_of b) → Breaks b r
     go (accepted k x w) = absurd_judged (sym x ∙ e)
     go (refused s x w) =
-        let y : Refused s ≡ Refused r = sym x ∙ e in
+        let y : Err s ≡ Err r = sym x ∙ e in
         let z : s ≡ r = cc in
         rw z at w
 
@@ -107,7 +110,7 @@ kept_is_accepted b n k =
     ∙ rw (le-ltb (first_field b n) n (first_reach (field_ok b) n k.fields), le-ltb (first_place b n) n (first_reach (place_ok b) n k.places))
 
 -- the first line that breaks a place rule, by the rule's number
-place_refused : (b : List ℕ) {r : Refusal} {n i rule : ℕ} → r ≡ bad_place rule (i + 1) → KeptTo b n i → broken_at b i ≡ rule → 0 < rule → judge_of b ≡ Refused r
+place_refused : (b : List ℕ) {r : Refusal} {n i rule : ℕ} → r ≡ bad_place rule (i + 1) → KeptTo b n i → broken_at b i ≡ rule → 0 < rule → judge_of b ≡ Err r
 unfolding judge_records place_ok
 place_refused b {r} {n} {i} er k e h =
     let w : FirstToBreak (place_ok b) n i = record { inside = k.inside; breaks = ne_eqb (broken_at b i) 0 (λ z. omega arith); before = k.before } in

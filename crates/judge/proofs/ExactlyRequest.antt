@@ -1,4 +1,5 @@
 -- A request's judgement, exactly when: the theorems of `specs/ExactlyRequest.antt`. Assumes nothing.
+use Rattle.std.specs.Prelude.{Err, Ok}
 use mathlib.Core.Path.{◌≡◌, refl, sym, ◌∙◌}
 use mathlib.Core.List.{List}
 use Prim.Native.Nat.{ℕ, ◌+◌, ◌*◌, ◌/◌, ◌%◌}
@@ -11,19 +12,17 @@ use Rattle.record.specs.Refusals.{request, cut_short, too_many, bad_field}
 use Rattle.record.specs.declared.Refusal.{Refusal}
 use Rattle.fields.specs.Entries.{entry_ok}
 use Rattle.fields.proofs.First.{by, first_reach}
-use Rattle.judge.specs.Request.{first_entry, judge_entries, judge_request_of}
+use Rattle.judge.specs.Request.{first_entry, judge_entries, judge_request_of, JudgedRequest}
 use Rattle.judge.specs.ExactlyRequest.{SizedRequest, KeepsRequest, BreaksRequest, cut, many, field, AcceptedRequestKeeps, KeptRequestIsAccepted, RefusedRequestBreaks, BrokenRequestIsRefused}
-use Rattle.judge.specs.declared.JudgedRequest.{JudgedRequest}
-use Rattle.judge.specs.declared.JudgedRequest.TheVariants.{Accepted, Refused}
 use Rattle.judge.proofs.Answers.{some_ltb, none_ltb}
 use Rattle.judge.proofs.Exactly.{first_break, break_first, all_keep}
 
-absurd_judged : {A : Type 0} {n : ℕ} {r : Refusal} → Accepted n ≡ Refused r → A
+absurd_judged : {A : Type 0} {n : ℕ} {r : Refusal} → Ok n ≡ Err r → A
 absurd_judged e = let z : ◌≡◌ {A = ℕ} 0 1 = cc in absurd (omega arith)
 
 data Answer (q : List ℕ) (j : JudgedRequest) : Type 0 where
-  accepted : (n : ℕ) → j ≡ Accepted n → KeepsRequest q n → Answer q j
-  refused : (r : Refusal) → j ≡ Refused r → BreaksRequest q r → Answer q j
+  accepted : (n : ℕ) → j ≡ Ok n → KeepsRequest q n → Answer q j
+  refused : (r : Refusal) → j ≡ Err r → BreaksRequest q r → Answer q j
 
 entries_answer : (q : List ℕ) (n : ℕ) → SizedRequest q n → Answer q (judge_entries q n)
 unfolding judge_entries
@@ -48,7 +47,7 @@ accepted_request_keeps q n e = go (answer q)
   where
     go : Answer q (judge_request_of q) → KeepsRequest q n
     go (accepted k x w) =
-        let y : Accepted n ≡ Accepted k = sym e ∙ x in
+        let y : Ok n ≡ Ok k = sym e ∙ x in
         let z : k ≡ n = cc in
         rw z at w
     go (refused r x w) = absurd_judged (sym e ∙ x)
@@ -59,7 +58,7 @@ refused_request_breaks q r e = go (answer q)
     go : Answer q (judge_request_of q) → BreaksRequest q r
     go (accepted k x w) = absurd_judged (sym x ∙ e)
     go (refused s x w) =
-        let y : Refused s ≡ Refused r = sym x ∙ e in
+        let y : Err s ≡ Err r = sym x ∙ e in
         let z : s ≡ r = cc in
         rw z at w
 

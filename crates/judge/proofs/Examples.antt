@@ -1,4 +1,5 @@
 -- Books and requests judged by computation. Assumes nothing.
+use Rattle.std.specs.Prelude.{Err, Ok}
 use mathlib.Core.Path.{◌≡◌, refl}
 use mathlib.Core.List.{List, [], ◌∷◌, ◌++◌}
 use Prim.Native.Nat.{ℕ, zero, suc, ◌+◌, ◌-◌, ◌*◌}
@@ -14,12 +15,8 @@ use Rattle.fields.specs.Entries.{entry_ok}
 use Rattle.operands.specs.Parent.{end_of, parent_of}
 use Rattle.operands.specs.Operands.{value_type, is_child, is_operand, two_values, comparable_by, operands_at}
 use Rattle.placement.specs.Place.{elder_of, depth_of, holds_conditions, single_of, holds_values, rank_at, elder_rank, stands_ok, child_rule, child_broken, top_ok, broken_at, place_ok}
-use Rattle.judge.specs.Judge.{judge_records, judge_of}
-use Rattle.judge.specs.Request.{judge_entries, judge_request_of}
-use Rattle.judge.specs.declared.Judged.{Judged}
-use Rattle.judge.specs.declared.Judged.TheVariants.{Accepted, Refused}
-use Rattle.judge.specs.declared.JudgedRequest.{JudgedRequest}
-use Rattle.judge.specs.declared.JudgedRequest.TheVariants as of-request
+use Rattle.judge.specs.Judge.{judge_records, judge_of, Judged, accepted_with}
+use Rattle.judge.specs.Request.{judge_entries, judge_request_of, JudgedRequest}
 
 -- worked book A of document 01, as bytes
 a : List ℕ
@@ -73,28 +70,28 @@ judged =
     ∷ judge_of (set a (3 * size + 18) 5) ∷ []
 
 computed : judged
-    ≡ Accepted 6 2
-    ∷ Refused (no_record book)
-    ∷ Refused (cut_short book)
-    ∷ Refused (bad_field book 4)
-    ∷ Refused (bad_field book 6)
-    ∷ Refused (bad_place 9 1)
-    ∷ Refused (bad_field book 6)
-    ∷ Refused (bad_place 10 2)
-    ∷ Refused (bad_place 11 6)
-    ∷ Accepted 16 0
-    ∷ Refused (bad_place 12 17)
-    ∷ Refused (bad_place 11 17)
-    ∷ Refused (bad_place 10 17)
-    ∷ Accepted 7 0
-    ∷ Refused (bad_place 11 4)
-    ∷ Refused (bad_place 11 3)
-    ∷ Refused (bad_place 11 3)
-    ∷ Accepted 6 2
-    ∷ Accepted 7 0
-    ∷ Refused (bad_field book 2)
-    ∷ Refused (bad_field book 6)
-    ∷ Refused (bad_field book 4) ∷ []
+    ≡ accepted_with 6 2
+    ∷ Err (no_record book)
+    ∷ Err (cut_short book)
+    ∷ Err (bad_field book 4)
+    ∷ Err (bad_field book 6)
+    ∷ Err (bad_place 9 1)
+    ∷ Err (bad_field book 6)
+    ∷ Err (bad_place 10 2)
+    ∷ Err (bad_place 11 6)
+    ∷ accepted_with 16 0
+    ∷ Err (bad_place 12 17)
+    ∷ Err (bad_place 11 17)
+    ∷ Err (bad_place 10 17)
+    ∷ accepted_with 7 0
+    ∷ Err (bad_place 11 4)
+    ∷ Err (bad_place 11 3)
+    ∷ Err (bad_place 11 3)
+    ∷ accepted_with 6 2
+    ∷ accepted_with 7 0
+    ∷ Err (bad_field book 2)
+    ∷ Err (bad_field book 6)
+    ∷ Err (bad_field book 4) ∷ []
 unfolding a bytes lines book_a nested sum judged judge_of judge_records span_of all_below count_below last_below first_from kind_of kind_at type_of type_at finite big_of finite_of zeros plain_ok section_ok compares_ok obligation_ok literal_ok attribute_ok field_ok obligations_of end_of parent_of elder_of depth_of holds_conditions single_of holds_values rank_at elder_rank stands_ok value_type is_child is_operand two_values comparable_by operands_at child_rule child_broken top_ok broken_at place_ok
 computed = refl
 
@@ -114,12 +111,12 @@ judged_requests =
     ∷ judge_request_of (set forty 19 5) ∷ []
 
 computed_requests : judged_requests
-    ≡ of-request.Accepted 1
-    ∷ of-request.Accepted 0
-    ∷ of-request.Refused (cut_short request)
-    ∷ of-request.Refused (bad_field request 1)
-    ∷ of-request.Refused (bad_field request 1)
-    ∷ of-request.Accepted 1
-    ∷ of-request.Refused (bad_field request 1) ∷ []
+    ≡ Ok 1
+    ∷ Ok 0
+    ∷ Err (cut_short request)
+    ∷ Err (bad_field request 1)
+    ∷ Err (bad_field request 1)
+    ∷ Ok 1
+    ∷ Err (bad_field request 1) ∷ []
 unfolding bytes lines is40 forty judged_requests judge_request_of judge_entries all_below first_from type_of finite big_of finite_of zeros entry_ok
 computed_requests = refl

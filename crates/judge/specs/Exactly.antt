@@ -1,6 +1,6 @@
 -- What is claimed of a book's judgement, "given exactly when": a refusal names the first line that breaks the rule, and what is accepted breaks none.
 -- `proofs/Exactly.antt` proves it. Assumes nothing.
-use Rattle.std.specs.Prelude.{ℕ, ◌+◌, ◌*◌, ◌%◌, ◌≤◌, ◌<◌, ◌≡◌, false, List, length}
+use Rattle.std.specs.Prelude.{ℕ, ◌+◌, ◌*◌, ◌%◌, ◌≤◌, ◌<◌, ◌≡◌, false, List, length, Err}
 use Rattle.record.specs.Bytes.{size, most_records}
 use Rattle.record.specs.Refusals.{book, no_record, cut_short, too_many, bad_field, bad_place}
 use Rattle.record.specs.declared.Refusal.{Refusal}
@@ -8,9 +8,8 @@ use Rattle.fields.specs.Fields.{field_ok, obligations_of}
 use Rattle.operands.specs.Parent.{end_of, parent_of}
 use Rattle.placement.specs.Place.{most_depth, depth_of, top_ok, place_ok}
 use Rattle.placement.specs.Keeps.{AllKeep, FirstToBreak, Sized, Keeps}
-use Rattle.judge.specs.Judge.{judge_of}
+use Rattle.judge.specs.Judge.{judge_of, accepted_with}
 use Rattle.judge.specs.Sound.{Allowed}
-use Rattle.judge.specs.declared.Judged.TheVariants.{Accepted, Refused}
 
 -- record i is one of n, all of which keep the field rules, and those before it the place rules
 pub record KeptTo (b : List ℕ) (n i : ℕ) : Type 0 where
@@ -33,14 +32,14 @@ pub data Breaks (b : List ℕ) (r : Refusal) : Type 0 where
 
 -- a book is accepted exactly when it keeps the rules
 abbrev pub AcceptedKeeps : Type 0
-AcceptedKeeps = (b : List ℕ) (n m : ℕ) → judge_of b ≡ Accepted n m → Keeps b n × (m ≡ obligations_of b n)
+AcceptedKeeps = (b : List ℕ) (n m : ℕ) → judge_of b ≡ accepted_with n m → Keeps b n × (m ≡ obligations_of b n)
 
 abbrev pub KeptIsAccepted : Type 0
-KeptIsAccepted = (b : List ℕ) (n : ℕ) → Keeps b n → judge_of b ≡ Accepted n (obligations_of b n)
+KeptIsAccepted = (b : List ℕ) (n : ℕ) → Keeps b n → judge_of b ≡ accepted_with n (obligations_of b n)
 
 -- and refused exactly when it breaks one, at the first line that does
 abbrev pub RefusedBreaks : Type 0
-RefusedBreaks = (b : List ℕ) (r : Refusal) → judge_of b ≡ Refused r → Breaks b r
+RefusedBreaks = (b : List ℕ) (r : Refusal) → judge_of b ≡ Err r → Breaks b r
 
 abbrev pub BrokenIsRefused : Type 0
-BrokenIsRefused = (b : List ℕ) (r : Refusal) → Breaks b r → judge_of b ≡ Refused r
+BrokenIsRefused = (b : List ℕ) (r : Refusal) → Breaks b r → judge_of b ≡ Err r

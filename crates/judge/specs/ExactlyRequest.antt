@@ -1,12 +1,11 @@
 -- The same of a request's judgement. `proofs/ExactlyRequest.antt` proves it. Assumes nothing.
-use Rattle.std.specs.Prelude.{ℕ, ◌+◌, ◌*◌, ◌%◌, ◌≤◌, ◌<◌, ◌≡◌, List, length}
+use Rattle.std.specs.Prelude.{ℕ, ◌+◌, ◌*◌, ◌%◌, ◌≤◌, ◌<◌, ◌≡◌, List, length, Err, Ok}
 use Rattle.record.specs.Bytes.{size, most_entries}
 use Rattle.record.specs.Refusals.{request, cut_short, too_many, bad_field}
 use Rattle.record.specs.declared.Refusal.{Refusal}
 use Rattle.fields.specs.Entries.{entry_ok}
 use Rattle.judge.specs.Request.{judge_request_of}
 use Rattle.placement.specs.Keeps.{AllKeep, FirstToBreak}
-use Rattle.judge.specs.declared.JudgedRequest.TheVariants.{Accepted, Refused}
 
 -- as many bytes as n entries have, as a request may
 pub record SizedRequest (q : List ℕ) (n : ℕ) : Type 0 where
@@ -26,14 +25,14 @@ pub data BreaksRequest (q : List ℕ) (r : Refusal) : Type 0 where
 
 -- a request is accepted exactly when it keeps the rules
 abbrev pub AcceptedRequestKeeps : Type 0
-AcceptedRequestKeeps = (q : List ℕ) (n : ℕ) → judge_request_of q ≡ Accepted n → KeepsRequest q n
+AcceptedRequestKeeps = (q : List ℕ) (n : ℕ) → judge_request_of q ≡ Ok n → KeepsRequest q n
 
 abbrev pub KeptRequestIsAccepted : Type 0
-KeptRequestIsAccepted = (q : List ℕ) (n : ℕ) → KeepsRequest q n → judge_request_of q ≡ Accepted n
+KeptRequestIsAccepted = (q : List ℕ) (n : ℕ) → KeepsRequest q n → judge_request_of q ≡ Ok n
 
 -- and refused exactly when it breaks one, at the first entry that does
 abbrev pub RefusedRequestBreaks : Type 0
-RefusedRequestBreaks = (q : List ℕ) (r : Refusal) → judge_request_of q ≡ Refused r → BreaksRequest q r
+RefusedRequestBreaks = (q : List ℕ) (r : Refusal) → judge_request_of q ≡ Err r → BreaksRequest q r
 
 abbrev pub BrokenRequestIsRefused : Type 0
-BrokenRequestIsRefused = (q : List ℕ) (r : Refusal) → BreaksRequest q r → judge_request_of q ≡ Refused r
+BrokenRequestIsRefused = (q : List ℕ) (r : Refusal) → BreaksRequest q r → judge_request_of q ≡ Err r

@@ -14,7 +14,7 @@ use Rattle.meaning.specs.declared.Test.{Test}
 use Rattle.meaning.specs.declared.Effect.{Effect}
 use Rattle.layout.specs.Entry.{Piece, loads, asks, works, tests, Entry, begin, match, further, opens, compare, close, sum, rule, enter, applies, conclude, oblige, leave, finish, extra, reach, is_further, fits}
 use Rattle.layout.specs.Layout.{bit_of, function_code, operator_code, effect_code, effect_by, op_code, algorithm_code, test_of, test_word, match_by, compare_by, piece_by, entry_by, entry_of, fetch, piece_words, words_of}
-use Rattle.layout.proofs.Coding.{bit_back, bit_small, effect_back, effect_small, op_back, algorithm_back, algorithm_small, function_back, function_small, operator_back, remainder, quotient, digit}
+use Rattle.layout.specs.Words.{bit_small, bit_laws, effect_small, effect_laws, op_back, algorithm_back, algorithm_small, algorithm_laws, function_small, function_laws, operator_back, remainder, quotient, digit, word_first, word_at}
 use Rattle.layout.specs.Room.{room_p}
 
 -- the key of a piece is a number of six bytes
@@ -96,9 +96,8 @@ test_back t n =
     let f : ℕ = function_code t.function in
     let m : ℕ = bit_of t.must in
     let fs = function_small t.function in
-    let ms = bit_small t.must in
     let key : key_number (bare_of t.key) (issuer_of t.key) ≡ t.key = omega arith in
-    rw (key, remainder 8 (f + 8 * m + 16 * n) f (m + 2 * n) (omega arith) (omega arith), digit 8 2 (f + 8 * m + 16 * n) f m n (omega arith) (omega arith) (omega arith), function_back, bit_back)
+    rw (key, word_first function_laws (f + 8 * m + 16 * n) t.function (m + 2 * n) (omega arith), word_at bit_laws 8 (f + 8 * m + 16 * n) f t.must n (omega arith) (omega arith))
 
 module _ (t : Test) (key : Key t) where
   abbrev bare : ℕ
@@ -131,24 +130,21 @@ module _ (t : Test) (key : Key t) where
       let w : ℕ = test_word t + 16 * (bit_of m + 2 * (bit_of c + 2 * (bit_of l + 2 * (bare + 4294967296 * i)))) in
       let third : ℕ = j + 8192 * (x + 8192 * issuer) in
       rw (
-        digit 16 2 w (test_word t) (bit_of m) (bit_of c + 2 * (bit_of l + 2 * (bare + 4294967296 * i))) refl s (omega arith),
-        digit 32 2 w (test_word t + 16 * bit_of m) (bit_of c) (bit_of l + 2 * (bare + 4294967296 * i)) (omega arith) (omega arith) (omega arith),
-        digit 64 2 w (test_word t + 16 * bit_of m + 32 * bit_of c) (bit_of l) (bare + 4294967296 * i) (omega arith) (omega arith) (omega arith),
+        word_at bit_laws 16 w (test_word t) m (bit_of c + 2 * (bit_of l + 2 * (bare + 4294967296 * i))) refl s,
+        word_at bit_laws 32 w (test_word t + 16 * bit_of m) c (bit_of l + 2 * (bare + 4294967296 * i)) (omega arith) (omega arith),
+        word_at bit_laws 64 w (test_word t + 16 * bit_of m + 32 * bit_of c) l (bare + 4294967296 * i) (omega arith) (omega arith),
         digit 128 4294967296 w (test_word t + 16 * bit_of m + 32 * bit_of c + 64 * bit_of l) bare i (omega arith) (omega arith) four,
         quotient 549755813888 w (test_word t + 16 * bit_of m + 32 * bit_of c + 64 * bit_of l + 128 * bare) i (omega arith) (omega (arith, four)),
         remainder 8192 third j (x + 8192 * issuer) refl h,
         digit 8192 8192 third j x issuer refl h k,
         quotient 67108864 third (j + 8192 * x) issuer (omega arith) (omega arith),
         mod-eq_of_lt two,
-        bit_back m,
-        bit_back c,
-        bit_back l,
         test_back,
       )
 
 -- an effect, and a number above it
 effect_of : (e : Effect) (n : ℕ) → effect_by ((effect_code e + 2 * n) % 2) ≡ e
-effect_of e n = rw (remainder 2 (effect_code e + 2 * n) (effect_code e) n refl (omega (arith, effect_small e)), effect_back)
+effect_of e n = word_first effect_laws (effect_code e + 2 * n) e n refl
 
 number_of : (e : Effect) (n : ℕ) → (effect_code e + 2 * n) / 2 ≡ n
 number_of e n = quotient 2 (effect_code e + 2 * n) (effect_code e) n refl (omega (arith, effect_small e))
@@ -176,7 +172,7 @@ piece_back (tests f k) ns g =
     let w : ℕ = function_code f + 8 * k in
     let s = function_small f in
     by_piece 3 w (get_or ns 0 0) (get_or ns 1 0) (omega arith)
-    ∙ rw (remainder 8 w (function_code f) k refl (omega arith), quotient 8 w (function_code f) k refl (omega arith), function_back f)
+    ∙ rw (word_first function_laws w f k refl, quotient 8 w (function_code f) k refl (omega arith))
 
 pub read_back : (e : Entry) (ns : List ℕ) → is_further e ≡ false → Holds Key Short e → reach e < 8192 → read_at (words_of e ++ ns) ≡ e
 unfolding words_of entry_by
@@ -184,7 +180,7 @@ read_back (begin al c) ns h g l =
     let k : ℕ = algorithm_code al + 8 * c in
     let s = algorithm_small al in
     let z : 16 * k ≡ 0 + 16 * k = omega arith in
-    rw (z, by_op 0 k (get_or ns 0 0) (get_or ns 1 0) (omega arith), remainder 8 k (algorithm_code al) c refl (omega arith), quotient 8 k (algorithm_code al) c refl (omega arith), algorithm_back)
+    rw (z, by_op 0 k (get_or ns 0 0) (get_or ns 1 0) (omega arith), word_first algorithm_laws k al c refl, quotient 8 k (algorithm_code al) c refl (omega arith))
 read_back (match t m c s i j x) ns h g l =
     by_op 1 _ t.literal (j + 8192 * (x + 8192 * issuer_of t.key)) (omega arith) ∙ match_back t g m c s i j x (omega (arith, l)) (omega (arith, l))
 read_back further ns h g l = no_false (sym h)

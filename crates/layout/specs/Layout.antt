@@ -1,5 +1,5 @@
 -- The numbers: how the first number, frames, levels and entries stand in 64 bits. docs/PROGRAMME.md draws it. Assumes nothing.
-use Rattle.std.specs.Prelude.{ℕ, ◌+◌, ◌-◌, ◌*◌, ◌/◌, ◌%◌, Bool, true, false, List, [], ◌∷◌, eqb, ltb, leb, get_or}
+use Rattle.std.specs.Prelude.{ℕ, ◌+◌, ◌-◌, ◌*◌, ◌/◌, ◌%◌, Bool, true, false, List, [], ◌∷◌, eqb, ltb, leb, get_or, None, Some}
 use Rattle.record.specs.Choose.{if, both}
 use Rattle.value.specs.Value.{function_of}
 use Rattle.value.specs.declared.Function.{Function}
@@ -15,8 +15,7 @@ use Rattle.meaning.specs.declared.Effect.{Effect}
 use Rattle.meaning.specs.declared.Effect.TheVariants.{Permits, Denies}
 use Rattle.meaning.specs.declared.Decision.{Decision}
 use Rattle.meaning.specs.declared.Decision.TheVariants.{Permit, Deny, NotApplicable, Indeterminate}
-use Rattle.meaning.specs.declared.Cause.{Cause}
-use Rattle.meaning.specs.declared.Cause.TheVariants.{NoCause, By}
+use Rattle.meaning.specs.Cause.{Cause}
 use Rattle.meaning.specs.declared.Verdict.{Verdict}
 use Rattle.meaning.specs.declared.Verdict.TheVariants as verdict
 use Rattle.meaning.specs.declared.Algorithm.{Algorithm}
@@ -44,15 +43,15 @@ truth_code True = 0
 truth_code False = 1
 truth_code (Unknown s) = 1 + status_number s
 
-unfoldable pub truth_by : ℕ → Truth
+abbrev pub truth_by : ℕ → Truth
 truth_by n = if (eqb n 0) True (if (eqb n 1) False (if (eqb n 2) (Unknown Missing) (Unknown Processing)))
 
 abbrev pub cause_code : Cause → ℕ
-cause_code NoCause = 0
-cause_code (By s) = status_number s
+cause_code None = 0
+cause_code (Some s) = status_number s
 
-unfoldable pub cause_by : ℕ → Cause
-cause_by n = if (eqb n 0) NoCause (if (eqb n 1) (By Missing) (By Processing))
+abbrev pub cause_by : ℕ → Cause
+cause_by n = if (eqb n 0) None (if (eqb n 1) (Some Missing) (Some Processing))
 
 abbrev pub decision_code : Decision → ℕ
 decision_code Permit = 0
@@ -60,7 +59,7 @@ decision_code Deny = 1
 decision_code NotApplicable = 2
 decision_code Indeterminate = 3
 
-unfoldable pub decision_by : ℕ → Decision
+abbrev pub decision_by : ℕ → Decision
 decision_by n = if (eqb n 0) Permit (if (eqb n 1) Deny (if (eqb n 2) NotApplicable Indeterminate))
 
 abbrev pub verdict_code : Verdict → ℕ
@@ -69,7 +68,7 @@ verdict_code verdict.Deny = 1
 verdict_code verdict.NotApplicable = 2
 verdict_code (verdict.Indeterminate s) = 2 + status_number s
 
-unfoldable pub verdict_by : ℕ → Verdict
+abbrev pub verdict_by : ℕ → Verdict
 verdict_by n =
     if (eqb n 0) verdict.Permit
     (if (eqb n 1) verdict.Deny
@@ -80,7 +79,7 @@ abbrev pub effect_code : Effect → ℕ
 effect_code Permits = 0
 effect_code Denies = 1
 
-unfoldable pub effect_by : ℕ → Effect
+abbrev pub effect_by : ℕ → Effect
 effect_by n = if (eqb n 0) Permits Denies
 
 abbrev pub op_code : Op → ℕ
@@ -88,7 +87,7 @@ op_code All = 0
 op_code Any = 1
 op_code Not = 2
 
-unfoldable pub op_by : ℕ → Op
+abbrev pub op_by : ℕ → Op
 op_by n = if (eqb n 0) All (if (eqb n 1) Any Not)
 
 abbrev pub algorithm_code : Algorithm → ℕ
@@ -99,7 +98,7 @@ algorithm_code PoliciesDeny = 3
 algorithm_code PoliciesPermit = 4
 algorithm_code OnlyOne = 5
 
-unfoldable pub algorithm_by : ℕ → Algorithm
+abbrev pub algorithm_by : ℕ → Algorithm
 algorithm_by n =
     if (eqb n 0) First (if (eqb n 1) RulesDeny (if (eqb n 2) RulesPermit (if (eqb n 3) PoliciesDeny (if (eqb n 4) PoliciesPermit OnlyOne))))
 
@@ -118,7 +117,7 @@ operator_code Divide = 3
 operator_code Remainder = 4
 operator_code DoubleAdd = 5
 
-unfoldable pub operator_by : ℕ → Operator
+abbrev pub operator_by : ℕ → Operator
 operator_by n =
     if (eqb n 0) Add (if (eqb n 1) Subtract (if (eqb n 2) Multiply (if (eqb n 3) Divide (if (eqb n 4) Remainder DoubleAdd))))
 
@@ -137,10 +136,10 @@ acc_code Pending = 6
 acc_code Two = 7
 acc_code (One d) = 8 + decision_code d
 
-unfoldable pub rank_by : ℕ → Rank
+abbrev pub rank_by : ℕ → Rank
 rank_by n = if (eqb n 0) R0 (if (eqb n 1) R1 (if (eqb n 2) R2 (if (eqb n 3) R3 R4)))
 
-unfoldable pub acc_by : ℕ → Acc
+abbrev pub acc_by : ℕ → Acc
 acc_by n =
     if (ltb n 5) (Ranked (rank_by n))
     (if (eqb n 5) Nobody

@@ -1,4 +1,5 @@
-pub mod Room
 pub mod Entry
 pub mod Layout
 pub mod Ranges
+pub mod Room
+pub mod Words

@@ -1,14 +1,22 @@
 // The layout of a programme's state in numbers: small words by number and back; levels, frames and the first number as they stand in 64 bits.
 #![tactic(auto)]
 
-ghost use Rattle.std.specs.Prelude.{◌≡◌, ◌<◌, ◌≤◌};
-ghost use Rattle.layout.specs.Layout.{bit_of, truth_code, truth_by, cause_code, cause_by, decision_code, decision_by, verdict_code, verdict_by, effect_by, op_code, op_by, algorithm_code, algorithm_by, operator_by, rank_code, rank_by, acc_code, acc_by, level_of, level_word, frame_of, frame_word, found_by, found_code, unpack_of, pack_of};
+pub mod kind;
+
+ghost use Rattle.std.specs.Prelude.{◌≡◌, ℕ, ◌/◌, ◌%◌, ◌<◌, ◌≤◌, eqb};
+ghost use Rattle.value.specs.Value.{function_of};
+ghost use Rattle.layout.specs.Layout.{bit_of, truth_code, truth_by, cause_code, cause_by, decision_code, decision_by, verdict_code, verdict_by, effect_code, effect_by, function_code, op_code, op_by, algorithm_code, algorithm_by, operator_code, operator_by, rank_code, rank_by, acc_code, acc_by, level_of, level_word, frame_of, frame_word, found_by, found_code, unpack_of, pack_of};
 ghost use Rattle.layout.specs.Ranges.{Held};
+ghost use Rattle.layout.specs.Words.{IsCoded, bit_laws, truth_laws, cause_laws, decision_laws, verdict_laws, effect_laws, op_laws, algorithm_laws, function_laws, operator_laws, rank_laws, acc_laws, found_laws};
 
 use algorithm::tally::Tally;
 use algorithm::{Acc, Rank};
 use meaning::{Algorithm, Cause, Decision, Effect, Truth, Verdict};
 use sums::{Operator, Status};
+use value::Function;
+
+// So many numbers has the field of a place ahead.
+pub const AHEAD: u64 = 8192;
 
 // What a condition that is open does with its parts.
 #[derive(Clone, Copy)]
@@ -44,6 +52,7 @@ pub struct Found {
 }
 
 // The first number, taken apart.
+// Kept: `over` is a bit of the first number (docs/PROGRAMME.md); what was found stands beside it also when the run is over.
 #[derive(Clone, Copy)]
 pub struct Head {
     pub at: u64,
@@ -56,313 +65,516 @@ pub struct Head {
     pub over: bool,
 }
 
-// A state has so many obligation places.
+// A state has so many frames and levels, one of each at the bottom, and so many obligation places.
+pub const FRAMES: usize = 17;
+
+pub const LEVELS: usize = 15;
+
 pub const PLACES: usize = 1000;
 
 #[derive(Clone, Copy)]
 pub struct State {
     pub head: u64,
-    pub frames: [u64; 17],
-    pub levels: [u64; 15],
+    pub frames: [u64; FRAMES],
+    pub levels: [u64; LEVELS],
     pub places: [u16; PLACES],
 }
 
-pub fn bit(b: bool) -> u64
-    ensures { (result ≡ bit_of b) × (result ≤ 1) }
-{
-    if b { 1 } else { 0 }
+// A word that stands in a field of a number. Each number is read as a word, one that no word has as the last one; so this is no `TryFrom`.
+pub trait Coded: Copy {
+    // Its field has so many numbers; the number of a word, and the word of a number.
+    ghost SIZE: { ℕ };
+
+    ghost code: { Self → ℕ };
+
+    ghost by: { ℕ → Self };
+
+    const SIZE: u64;
+
+    fn code(self) -> u64
+        ensures { (result ≡ code self) × (result < SIZE) };
+
+    fn by(n: u64) -> Self
+        ensures { result ≡ by n };
+
+    // Each number is below the size, and brings its word back.
+    ghost laws: { IsCoded SIZE code by };
 }
 
-fn truth_code(t: Truth) -> u64
-    ensures { (result ≡ truth_code t) × (result ≤ 3) }
+// The word in the lowest bits of a number.
+pub fn low<T: Coded>(n: u64) -> T
+    ensures { result ≡ T.by (n % T.SIZE) }
 {
-    match t {
-        Truth::True => 0,
-        Truth::False => 1,
-        Truth::Unknown(s) => 1 + meaning::status_number(s) as u64,
+    T::by(n % T::SIZE)
+}
+
+impl Coded for bool {
+    ghost SIZE = { 2 };
+
+    ghost code = { bit_of };
+
+    ghost by = { λ n. eqb n 1 };
+
+    ghost laws = { bit_laws };
+
+    const SIZE: u64 = 2;
+
+    fn code(self) -> u64 {
+        u64::from(self)
+    }
+
+    fn by(n: u64) -> bool {
+        n == 1
     }
 }
 
-fn truth_by(n: u64) -> Truth
-    ensures { result ≡ truth_by n }
-{
-    match n {
-        0 => Truth::True,
-        1 => Truth::False,
-        2 => Truth::Unknown(Status::Missing),
-        _ => Truth::Unknown(Status::Processing),
+impl Coded for Truth {
+    ghost SIZE = { 4 };
+
+    ghost code = { truth_code };
+
+    ghost by = { truth_by };
+
+    ghost laws = { truth_laws };
+
+    const SIZE: u64 = 4;
+
+    fn code(self) -> u64 {
+        match self {
+            Truth::True => 0,
+            Truth::False => 1,
+            Truth::Unknown(s) => 1 + u64::from(meaning::status_number(s)),
+        }
+    }
+
+    fn by(n: u64) -> Truth {
+        match n {
+            0 => Truth::True,
+            1 => Truth::False,
+            2 => Truth::Unknown(Status::Missing),
+            _ => Truth::Unknown(Status::Processing),
+        }
     }
 }
 
-fn cause_code(c: Cause) -> u64
-    ensures { (result ≡ cause_code c) × (result ≤ 2) }
-{
-    match c {
-        Cause::NoCause => 0,
-        Cause::By(s) => meaning::status_number(s) as u64,
+impl Coded for Cause {
+    ghost SIZE = { 4 };
+
+    ghost code = { cause_code };
+
+    ghost by = { cause_by };
+
+    ghost laws = { cause_laws };
+
+    const SIZE: u64 = 4;
+
+    fn code(self) -> u64 {
+        match self {
+            None => 0,
+            Some(s) => u64::from(meaning::status_number(s)),
+        }
+    }
+
+    fn by(n: u64) -> Cause {
+        match n {
+            0 => None,
+            1 => Some(Status::Missing),
+            _ => Some(Status::Processing),
+        }
     }
 }
 
-fn cause_by(n: u64) -> Cause
-    ensures { result ≡ cause_by n }
-{
-    match n {
-        0 => Cause::NoCause,
-        1 => Cause::By(Status::Missing),
-        _ => Cause::By(Status::Processing),
+impl Coded for Decision {
+    ghost SIZE = { 4 };
+
+    ghost code = { decision_code };
+
+    ghost by = { decision_by };
+
+    ghost laws = { decision_laws };
+
+    const SIZE: u64 = 4;
+
+    fn code(self) -> u64 {
+        self as u64
+    }
+
+    fn by(n: u64) -> Decision {
+        match n {
+            0 => Decision::Permit,
+            1 => Decision::Deny,
+            2 => Decision::NotApplicable,
+            _ => Decision::Indeterminate,
+        }
     }
 }
 
-fn decision_code(d: Decision) -> u64
-    ensures { (result ≡ decision_code d) × (result ≤ 3) }
-{
-    match d {
-        Decision::Permit => 0,
-        Decision::Deny => 1,
-        Decision::NotApplicable => 2,
-        Decision::Indeterminate => 3,
+impl Coded for Verdict {
+    ghost SIZE = { 8 };
+
+    ghost code = { verdict_code };
+
+    ghost by = { verdict_by };
+
+    ghost laws = { verdict_laws };
+
+    const SIZE: u64 = 8;
+
+    fn code(self) -> u64 {
+        match self {
+            Verdict::Permit => 0,
+            Verdict::Deny => 1,
+            Verdict::NotApplicable => 2,
+            Verdict::Indeterminate(s) => 2 + u64::from(meaning::status_number(s)),
+        }
+    }
+
+    fn by(n: u64) -> Verdict {
+        match n {
+            0 => Verdict::Permit,
+            1 => Verdict::Deny,
+            2 => Verdict::NotApplicable,
+            3 => Verdict::Indeterminate(Status::Missing),
+            _ => Verdict::Indeterminate(Status::Processing),
+        }
     }
 }
 
-fn decision_by(n: u64) -> Decision
-    ensures { result ≡ decision_by n }
-{
-    match n {
-        0 => Decision::Permit,
-        1 => Decision::Deny,
-        2 => Decision::NotApplicable,
-        _ => Decision::Indeterminate,
+impl Coded for Effect {
+    ghost SIZE = { 2 };
+
+    ghost code = { effect_code };
+
+    ghost by = { effect_by };
+
+    ghost laws = { effect_laws };
+
+    const SIZE: u64 = 2;
+
+    fn code(self) -> u64 {
+        self as u64
+    }
+
+    fn by(n: u64) -> Effect {
+        match n {
+            0 => Effect::Permits,
+            _ => Effect::Denies,
+        }
     }
 }
 
-fn verdict_code(v: Verdict) -> u64
-    ensures { (result ≡ verdict_code v) × (result ≤ 4) }
-{
-    match v {
-        Verdict::Permit => 0,
-        Verdict::Deny => 1,
-        Verdict::NotApplicable => 2,
-        Verdict::Indeterminate(s) => 2 + meaning::status_number(s) as u64,
+impl Coded for Op {
+    ghost SIZE = { 4 };
+
+    ghost code = { op_code };
+
+    ghost by = { op_by };
+
+    ghost laws = { op_laws };
+
+    const SIZE: u64 = 4;
+
+    fn code(self) -> u64 {
+        self as u64
+    }
+
+    fn by(n: u64) -> Op {
+        match n {
+            0 => Op::All,
+            1 => Op::Any,
+            _ => Op::Not,
+        }
     }
 }
 
-fn verdict_by(n: u64) -> Verdict
-    ensures { result ≡ verdict_by n }
-{
-    match n {
-        0 => Verdict::Permit,
-        1 => Verdict::Deny,
-        2 => Verdict::NotApplicable,
-        3 => Verdict::Indeterminate(Status::Missing),
-        _ => Verdict::Indeterminate(Status::Processing),
+impl Coded for Algorithm {
+    ghost SIZE = { 8 };
+
+    ghost code = { algorithm_code };
+
+    ghost by = { algorithm_by };
+
+    ghost laws = { algorithm_laws };
+
+    const SIZE: u64 = 8;
+
+    fn code(self) -> u64 {
+        // Kept: the numbers of docs/PROGRAMME.md go in another order than the variants.
+        match self {
+            Algorithm::First => 0,
+            Algorithm::RulesDeny => 1,
+            Algorithm::RulesPermit => 2,
+            Algorithm::PoliciesDeny => 3,
+            Algorithm::PoliciesPermit => 4,
+            Algorithm::OnlyOne => 5,
+        }
+    }
+
+    fn by(n: u64) -> Algorithm {
+        match n {
+            0 => Algorithm::First,
+            1 => Algorithm::RulesDeny,
+            2 => Algorithm::RulesPermit,
+            3 => Algorithm::PoliciesDeny,
+            4 => Algorithm::PoliciesPermit,
+            _ => Algorithm::OnlyOne,
+        }
     }
 }
 
-pub fn effect_by(n: u64) -> Effect
-    ensures { result ≡ effect_by n }
-{
-    match n {
-        0 => Effect::Permits,
-        _ => Effect::Denies,
+impl Coded for Function {
+    ghost SIZE = { 8 };
+
+    ghost code = { function_code };
+
+    ghost by = { function_of };
+
+    ghost laws = { function_laws };
+
+    const SIZE: u64 = 8;
+
+    fn code(self) -> u64 {
+        1 + self as u64
+    }
+
+    // Kept: `as` between usize and u64, since there is no `From` between them.
+    fn by(n: u64) -> Function {
+        value::function_of(n as usize)
     }
 }
 
-fn op_code(op: Op) -> u64
-    ensures { (result ≡ op_code op) × (result ≤ 2) }
-{
-    match op {
-        Op::All => 0,
-        Op::Any => 1,
-        Op::Not => 2,
+impl Coded for Operator {
+    ghost SIZE = { 8 };
+
+    ghost code = { operator_code };
+
+    ghost by = { operator_by };
+
+    ghost laws = { operator_laws };
+
+    const SIZE: u64 = 8;
+
+    fn code(self) -> u64 {
+        self as u64
+    }
+
+    fn by(n: u64) -> Operator {
+        match n {
+            0 => Operator::Add,
+            1 => Operator::Subtract,
+            2 => Operator::Multiply,
+            3 => Operator::Divide,
+            4 => Operator::Remainder,
+            _ => Operator::DoubleAdd,
+        }
     }
 }
 
-pub fn op_by(n: u64) -> Op
-    ensures { result ≡ op_by n }
-{
-    match n {
-        0 => Op::All,
-        1 => Op::Any,
-        _ => Op::Not,
+impl Coded for Rank {
+    ghost SIZE = { 8 };
+
+    ghost code = { rank_code };
+
+    ghost by = { rank_by };
+
+    ghost laws = { rank_laws };
+
+    const SIZE: u64 = 8;
+
+    fn code(self) -> u64 {
+        self as u64
+    }
+
+    fn by(n: u64) -> Rank {
+        match n {
+            0 => Rank::R0,
+            1 => Rank::R1,
+            2 => Rank::R2,
+            3 => Rank::R3,
+            _ => Rank::R4,
+        }
     }
 }
 
-pub fn algorithm_code(a: Algorithm) -> u64
-    ensures { (result ≡ algorithm_code a) × (result ≤ 5) }
-{
-    match a {
-        Algorithm::First => 0,
-        Algorithm::RulesDeny => 1,
-        Algorithm::RulesPermit => 2,
-        Algorithm::PoliciesDeny => 3,
-        Algorithm::PoliciesPermit => 4,
-        Algorithm::OnlyOne => 5,
+impl Coded for Acc {
+    ghost SIZE = { 16 };
+
+    ghost code = { acc_code };
+
+    ghost by = { acc_by };
+
+    ghost laws = { acc_laws };
+
+    const SIZE: u64 = 16;
+
+    fn code(self) -> u64 {
+        match self {
+            Acc::Ranked(k) => k.code(),
+            Acc::Nobody => 5,
+            Acc::Pending => 6,
+            Acc::Two => 7,
+            Acc::One(d) => 8 + d.code(),
+        }
+    }
+
+    fn by(n: u64) -> Acc {
+        match n {
+            0..=4 => Acc::Ranked(Rank::by(n)),
+            5 => Acc::Nobody,
+            6 => Acc::Pending,
+            7 => Acc::Two,
+            _ => Acc::One(Decision::by(n - 8)),
+        }
     }
 }
 
-pub fn algorithm_by(n: u64) -> Algorithm
-    ensures { result ≡ algorithm_by n }
-{
-    match n {
-        0 => Algorithm::First,
-        1 => Algorithm::RulesDeny,
-        2 => Algorithm::RulesPermit,
-        3 => Algorithm::PoliciesDeny,
-        4 => Algorithm::PoliciesPermit,
-        _ => Algorithm::OnlyOne,
-    }
+impl Level {
+    // Where its value stands, behind the operation.
+    const VAL: u64 = Op::SIZE;
 }
 
-pub fn operator_by(n: u64) -> Operator
-    ensures { result ≡ operator_by n }
-{
-    match n {
-        0 => Operator::Add,
-        1 => Operator::Subtract,
-        2 => Operator::Multiply,
-        3 => Operator::Divide,
-        4 => Operator::Remainder,
-        _ => Operator::DoubleAdd,
-    }
-}
-
-fn rank_code(k: Rank) -> u64
-    ensures { (result ≡ rank_code k) × (result ≤ 4) }
-{
-    match k {
-        Rank::R0 => 0,
-        Rank::R1 => 1,
-        Rank::R2 => 2,
-        Rank::R3 => 3,
-        Rank::R4 => 4,
-    }
-}
-
-fn rank_by(n: u64) -> Rank
-    ensures { result ≡ rank_by n }
-{
-    match n {
-        0 => Rank::R0,
-        1 => Rank::R1,
-        2 => Rank::R2,
-        3 => Rank::R3,
-        _ => Rank::R4,
-    }
-}
-
-fn acc_code(a: Acc) -> u64
-    ensures { (result ≡ acc_code a) × (result ≤ 11) }
-{
-    match a {
-        Acc::Ranked(k) => rank_code(k),
-        Acc::Nobody => 5,
-        Acc::Pending => 6,
-        Acc::Two => 7,
-        Acc::One(d) => 8 + decision_code(d),
-    }
-}
-
-fn acc_by(n: u64) -> Acc
-    ensures { result ≡ acc_by n }
-{
-    if n < 5 {
-        return Acc::Ranked(rank_by(n));
-    }
-    match n {
-        5 => Acc::Nobody,
-        6 => Acc::Pending,
-        7 => Acc::Two,
-        _ => Acc::One(decision_by(n - 8)),
-    }
-}
-
+// Kept: no `Coded`, here and of frames and the first number, since each is a whole number and no field; the last two also ask that their heights fit.
+#[tactic(auto, unfolding(crate::specs::Layout::level_of))]
 pub fn level_of(n: u64) -> Level
     ensures { result ≡ level_of n }
 {
     Level {
-        op: op_by(n % 4),
-        val: truth_by(n / 4 % 4),
+        op: low(n),
+        val: low(n / Level::VAL),
     }
 }
 
+#[tactic(auto, unfolding(crate::specs::Layout::level_word))]
 pub fn level_word(l: Level) -> u64
     ensures { result ≡ level_word l }
 {
-    let op = l.op;
-    let val = l.val;
-    op_code(op) + 4 * truth_code(val)
+    l.op.code() + Level::VAL * l.val.code()
+}
+
+// So many numbers has a field for a height of obligations, for the open policies and sets, and for the open conditions.
+const HEIGHTS: u64 = 1024;
+
+const DEPTHS: u64 = 32;
+
+const NESTS: u64 = 16;
+
+// Where the fields of a frame start, behind its algorithm.
+impl Frame {
+    const ACC: u64 = Algorithm::SIZE;
+
+    const PERMITS: u64 = Acc::SIZE * Frame::ACC;
+
+    const DENIES: u64 = HEIGHTS * Frame::PERMITS;
+
+    const CAUSE: u64 = HEIGHTS * Frame::DENIES;
 }
 
 // Heights below 1,024 fit.
+#[tactic(auto, unfolding(crate::specs::Layout::frame_of))]
 pub fn frame_of(n: u64) -> Frame
     ensures { (result ≡ frame_of n) × ((result.permits < 1024) × (result.denies < 1024)) }
 {
     Frame {
-        alg: algorithm_by(n % 8),
+        alg: low(n),
         tally: Tally {
-            acc: acc_by(n / 8 % 16),
-            cause: cause_by(n / 134217728 % 4),
+            acc: low(n / Frame::ACC),
+            cause: low(n / Frame::CAUSE),
         },
-        permits: n / 128 % 1024,
-        denies: n / 131072 % 1024,
+        permits: n / Frame::PERMITS % HEIGHTS,
+        denies: n / Frame::DENIES % HEIGHTS,
     }
 }
 
+#[tactic(auto, unfolding(crate::specs::Layout::frame_word))]
 pub fn frame_word(f: Frame) -> u64
     requires { (f.permits < 1024) × (f.denies < 1024) }
     ensures { result ≡ frame_word f }
 {
-    let alg = f.alg;
-    let k = f.tally;
-    let acc = k.acc;
-    let cause = k.cause;
-    let heights = f.permits + 1024 * (f.denies + 1024 * cause_code(cause));
-    algorithm_code(alg) + 8 * (acc_code(acc) + 16 * heights)
+    f.alg.code()
+        + Frame::ACC * f.tally.acc.code()
+        + Frame::PERMITS * f.permits
+        + Frame::DENIES * f.denies
+        + Frame::CAUSE * f.tally.cause.code()
 }
 
-fn found_by(n: u64) -> Found
-    ensures { result ≡ found_by n }
-{
-    Found {
-        reg: verdict_by(n % 8),
-        ands: truth_by(n / 8 % 4),
-        ors: truth_by(n / 32 % 4),
-        sections: truth_by(n / 128 % 4),
+// Where the fields of what was found start, behind the register.
+impl Found {
+    const ANDS: u64 = Verdict::SIZE;
+
+    const ORS: u64 = Truth::SIZE * Found::ANDS;
+
+    const SECTIONS: u64 = Truth::SIZE * Found::ORS;
+}
+
+impl Coded for Found {
+    ghost SIZE = { 512 };
+
+    ghost code = { found_code };
+
+    ghost by = { found_by };
+
+    ghost laws = { found_laws };
+
+    const SIZE: u64 = 512;
+
+    #[tactic(auto, unfolding(crate::specs::Layout::found_code))]
+    fn code(self) -> u64 {
+        self.reg.code()
+            + Found::ANDS * self.ands.code()
+            + Found::ORS * self.ors.code()
+            + Found::SECTIONS * self.sections.code()
+    }
+
+    #[tactic(auto, unfolding(crate::specs::Layout::found_by))]
+    fn by(n: u64) -> Found {
+        Found {
+            reg: low(n),
+            ands: low(n / Found::ANDS),
+            ors: low(n / Found::ORS),
+            sections: low(n / Found::SECTIONS),
+        }
     }
 }
 
-fn found_code(f: Found) -> u64
-    ensures { (result ≡ found_code f) × (result < 512) }
-{
-    let reg = f.reg;
-    let ands = f.ands;
-    let ors = f.ors;
-    let sections = f.sections;
-    let second = truth_code(ors) + 4 * truth_code(sections);
-    verdict_code(reg) + 8 * (truth_code(ands) + 4 * second)
+// Where the fields of the first number start, behind the place in the programme.
+impl Head {
+    const DEPTH: u64 = 8192;
+
+    const NEST: u64 = DEPTHS * Head::DEPTH;
+
+    const PERMITS: u64 = NESTS * Head::NEST;
+
+    const DENIES: u64 = HEIGHTS * Head::PERMITS;
+
+    const CUT: u64 = HEIGHTS * Head::DENIES;
+
+    const FOUND: u64 = HEIGHTS * Head::CUT;
+
+    const OVER: u64 = Found::SIZE * Head::FOUND;
 }
 
+#[tactic(auto, unfolding(crate::specs::Layout::unpack_of))]
 pub fn unpack(n: u64) -> Head
     ensures { result ≡ unpack_of n }
 {
     Head {
-        at: n % 8192,
-        depth: n / 8192 % 32,
-        nest: n / 262144 % 16,
-        permits: n / 4194304 % 1024,
-        denies: n / 4294967296 % 1024,
-        cut: n / 4398046511104 % 1024,
-        found: found_by(n / 4503599627370496 % 512),
-        over: n / 2305843009213693952 % 2 == 1,
+        at: n % Head::DEPTH,
+        depth: n / Head::DEPTH % DEPTHS,
+        nest: n / Head::NEST % NESTS,
+        permits: n / Head::PERMITS % HEIGHTS,
+        denies: n / Head::DENIES % HEIGHTS,
+        cut: n / Head::CUT % HEIGHTS,
+        found: low(n / Head::FOUND),
+        over: low(n / Head::OVER),
     }
 }
 
+#[tactic(auto, unfolding(crate::specs::Layout::pack_of))]
 pub fn pack(h: Head) -> u64
     requires { Held h }
     ensures { result ≡ pack_of h }
 {
-    let found = h.found;
-    let words = found_code(found) + 512 * bit(h.over);
-    let stacks = h.permits + 1024 * (h.denies + 1024 * (h.cut + 1024 * words));
-    h.at + 8192 * (h.depth + 32 * (h.nest + 16 * stacks))
+    let opened = h.at + Head::DEPTH * h.depth + Head::NEST * h.nest;
+    let heights = Head::PERMITS * h.permits + Head::DENIES * h.denies + Head::CUT * h.cut;
+    opened + heights + Head::FOUND * h.found.code() + Head::OVER * h.over.code()
 }

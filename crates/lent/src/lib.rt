@@ -1,4 +1,5 @@
-// Places that a caller lends for obligations, copied and cleared: deciding, ticks and the calls from C do this.
+// Places that a caller lends for obligations, copied and cleared. Deciding alone calls this crate, to clear.
+// Kept: docs/CONTRACTS.md names `copy` and `clear`.
 #![tactic(auto)]
 
 ghost use Rattle.std.specs.Prelude.{◌≡◌, ◌++◌, ◌-◌, ◌≤◌, length, take, drop, replicate};
@@ -8,11 +9,7 @@ pub fn copy(from: &[u16], n: usize, to: &mut [u16])
     requires { (n ≤ length from.now) × (n ≤ length to.old) }
     ensures { to.new ≡ take n from.now ++ drop n to.old }
 {
-    let mut i: usize = 0;
-    while i < n {
-        to[i] = from[i];
-        i += 1;
-    }
+    to[..n].copy_from_slice(&from[..n]);
 }
 
 // Puts zero into every place from n on.
@@ -20,9 +17,5 @@ pub fn clear(out: &mut [u16], n: usize)
     requires { n ≤ length out.old }
     ensures { out.new ≡ take n out.old ++ replicate (length out.old - n) 0 }
 {
-    let mut i = n;
-    while i < out.len() {
-        out[i] = 0;
-        i += 1;
-    }
+    out[n..].fill(0);
 }

@@ -11,6 +11,7 @@ use lib.ListN.{length, take, get_or, drop, set, length-append, drop_of_length-le
 use lib.Seq.{drop-cons, take_at}
 use Rattle.record.specs.Choose.{if}
 use Rattle.record.specs.Stored.{stored}
+use Rattle.record.specs.Refusals.{part_number, number_of, part_of, line_of}
 use Rattle.record.specs.declared.Refusal.{Refusal}
 use Rattle.record.proofs.Stored.{stored_then, stored_one, stored_pair, stored_first}
 use Rattle.text.specs.Hex.{letter_of}
@@ -66,12 +67,14 @@ unfolding places_of
 places_short line room h = simp (lt-leb (length line) room h)
 
 -- the stores of a refusal's line, one after the other
-refusal_parts : (r : Refusal) → refusal_line r ≡ hex_of 2 255 ++ (hex_of 2 r.number ++ (hex_of 2 r.part ++ (hex_of 4 r.line ++ (10 ∷ []))))
+refusal_parts : (r : Refusal) → refusal_line r
+    ≡ hex_of 2 255 ++ (hex_of 2 (number_of r) ++ (hex_of 2 (part_number (part_of r)) ++ (hex_of 4 (line_of r) ++ (10 ∷ []))))
 unfolding refusal_line
 refusal_parts r = simp append_assoc
 
 pub refusal_put : (r : Refusal) (l : List ℕ) {a b c d : List ℕ} → 11 ≤ length l
-    → a ≡ stored l 0 (hex_of 2 255) → b ≡ stored a 2 (hex_of 2 r.number) → c ≡ stored b 4 (hex_of 2 r.part) → d ≡ stored c 6 (hex_of 4 r.line)
+    → a ≡ stored l 0 (hex_of 2 255) → b ≡ stored a 2 (hex_of 2 (number_of r))
+    → c ≡ stored b 4 (hex_of 2 (part_number (part_of r))) → d ≡ stored c 6 (hex_of 4 (line_of r))
     → set d 10 10 ≡ put (refusal_line r) l
 refusal_put r l h e1 e2 e3 e4 =
     rw (e4, e3, e2, e1)
@@ -79,9 +82,9 @@ refusal_put r l h e1 e2 e3 e4 =
     ∙ sym
     (ap (stored l 0) (refusal_parts r)
     ∙ stored_then l (hex_of 2 255) _ 0 2 (length_hex 2 255)
-    ∙ stored_then _ (hex_of 2 r.number) _ 2 2 (length_hex 2 r.number)
-    ∙ stored_then _ (hex_of 2 r.part) _ 4 2 (length_hex 2 r.part)
-    ∙ stored_then _ (hex_of 4 r.line) (10 ∷ []) 6 4 (length_hex 4 r.line))
+    ∙ stored_then _ (hex_of 2 (number_of r)) _ 2 2 (length_hex 2 (number_of r))
+    ∙ stored_then _ (hex_of 2 (part_number (part_of r))) _ 4 2 (length_hex 2 (part_number (part_of r)))
+    ∙ stored_then _ (hex_of 4 (line_of r)) (10 ∷ []) 6 4 (length_hex 4 (line_of r)))
     ∙ put_fits (refusal_line r) l (omega (arith, length_refusal r)))
 
 -- one obligation more, and the end of the line

@@ -2,6 +2,7 @@
 use Rattle.std.specs.Prelude.{ℕ, zero, suc, ◌+◌, ◌*◌, ◌/◌, List, [], ◌∷◌, ◌++◌, leb, length, drop}
 use Rattle.record.specs.Bytes.{most_records}
 use Rattle.record.specs.Choose.{if}
+use Rattle.record.specs.Refusals.{part_number, number_of, part_of, line_of}
 use Rattle.record.specs.declared.Refusal.{Refusal}
 use Rattle.text.specs.Hex.{letter_of}
 use Rattle.text.specs.Text.{lf}
@@ -26,7 +27,7 @@ longest = 2 + 4 + 4 * most_records + 1
 
 -- a refusal: FF, number (2), part (2), line (4)
 unfoldable pub refusal_line : Refusal → List ℕ
-refusal_line r = hex_of 2 255 ++ hex_of 2 r.number ++ hex_of 2 r.part ++ hex_of 4 r.line ++ (lf ∷ [])
+refusal_line r = hex_of 2 255 ++ hex_of 2 (number_of r) ++ hex_of 2 (part_number (part_of r)) ++ hex_of 4 (line_of r) ++ (lf ∷ [])
 
 -- how many places of a lent output a line takes: all or none
 unfoldable pub places_of : List ℕ → ℕ → ℕ

@@ -1,4 +1,5 @@
 // What the programs print: one line, in capital hexadecimal digits.
+// Kept: no `Display` and a place beside the slice, since the contracts say each byte, stored at its place.
 #![tactic(auto)]
 
 ghost use Rattle.std.specs.Prelude.{◌≡◌, [], ◌∷◌, ◌++◌, ◌+◌, ◌*◌, ◌≤◌, length, take};
@@ -20,6 +21,7 @@ fn two_digits(out: &mut [u8], at: usize, n: usize)
 }
 
 // Stores a number as four digits, from place `at` on.
+// Kept: no function of a count of digits, since four are two and two and a loop would only add lines.
 pub fn four_digits(out: &mut [u8], at: usize, n: usize)
     requires { at + 4 ≤ length out.old }
     ensures { out.new ≡ stored out.old at (hex_of 4 n) }
@@ -29,6 +31,7 @@ pub fn four_digits(out: &mut [u8], at: usize, n: usize)
 }
 
 // Puts the line of a refusal first into `out`, and answers its length. Where it does not fit nothing is put, and the answer is 0.
+// Kept: no `Option`, since 0 is what is put there (`places_of`, which the contracts of both lines name).
 pub fn refusal_line(refusal: Refusal, out: &mut [u8]) -> usize
     ensures { (result ≡ places_of (refusal_line refusal) (length out.old)) × (out.new ≡ put (refusal_line refusal) out.old) }
 {
@@ -36,9 +39,9 @@ pub fn refusal_line(refusal: Refusal, out: &mut [u8]) -> usize
         return 0;
     }
     two_digits(out, 0, 255);
-    two_digits(out, 2, refusal.number as usize);
-    two_digits(out, 4, refusal.part as usize);
-    four_digits(out, 6, refusal.line);
+    two_digits(out, 2, usize::from(refusal.number()));
+    two_digits(out, 4, usize::from(refusal.part().number()));
+    four_digits(out, 6, refusal.line());
     out[10] = text::LF;
     11
 }
@@ -48,25 +51,20 @@ fn put_obligations(obligations: &[u16], out: &mut [u8])
     requires { 7 + 4 * length obligations.now ≤ length out.old }
     ensures { out.new ≡ stored out.old 6 (fours obligations.now ++ (lf ∷ [])) }
 {
-    let mut i = 0;
-    while i < obligations.len() {
-        four_digits(out, 6 + 4 * i, obligations[i] as usize);
-        i += 1;
+    for (i, obligation) in obligations.iter().enumerate() {
+        four_digits(out, 6 + 4 * i, usize::from(*obligation));
     }
-    out[6 + 4 * i] = text::LF;
+    out[6 + 4 * obligations.len()] = text::LF;
 }
 
 fn put_decision(decision: u8, obligations: &[u16], out: &mut [u8]) -> usize
     ensures { (result ≡ places_of (decision_line decision obligations.now) (length out.old)) × (out.new ≡ put (decision_line decision obligations.now) out.old) }
 {
     let count = obligations.len();
-    if out.len() < 7 {
+    if out.len() < 7 || (out.len() - 7) / 4 < count {
         return 0;
     }
-    if (out.len() - 7) / 4 < count {
-        return 0;
-    }
-    two_digits(out, 0, decision as usize);
+    two_digits(out, 0, usize::from(decision));
     four_digits(out, 2, count);
     put_obligations(obligations, out);
     7 + 4 * count
@@ -77,8 +75,5 @@ fn put_decision(decision: u8, obligations: &[u16], out: &mut [u8]) -> usize
 pub fn decision_line(decision: u8, obligations: &[u16], count: usize, out: &mut [u8]) -> usize
     ensures { (result ≡ places_of (decision_line decision (take count obligations.now)) (length out.old)) × (out.new ≡ put (decision_line decision (take count obligations.now)) out.old) }
 {
-    if count < obligations.len() {
-        return put_decision(decision, &obligations[..count], out);
-    }
-    put_decision(decision, obligations, out)
+    put_decision(decision, &obligations[..count.min(obligations.len())], out)
 }

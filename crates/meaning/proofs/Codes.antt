@@ -1,14 +1,15 @@
 -- The claims of specs/Codes.antt. Assumes nothing.
+use Rattle.std.specs.Prelude.{Err, None, Ok, Some}
 use Prim.Native.Nat.{ℕ}
 use mathlib.Core.Path.{◌≡◌, refl, sym, ap, ◌∙◌}
 use mathlib.Core.Bool.{Bool, true, false}
 use mathlib.Core.List.{List, [], ◌∷◌}
+use Rattle.sums.specs.Worth.{Worth}
+use Rattle.meaning.specs.Cause.{Cause}
 use lib.Dec.{T}
 use Rattle.record.specs.Choose.{if, both, either}
 use Rattle.sums.specs.declared.Status.{Status}
 use Rattle.sums.specs.declared.Status.TheVariants.{Processing}
-use Rattle.sums.specs.declared.Worth.{Worth}
-use Rattle.sums.specs.declared.Worth.TheVariants.{Is, Lost}
 use Rattle.meaning.specs.Numbers.{key_by}
 use Rattle.meaning.specs.Logic.{is_true, is_unknown, some, or_else, first}
 use Rattle.meaning.specs.Meaning.{match_of, comparison_of, the_only, decision_in, cause_in, Child, verdict_in, said, is, same, says, fails, first_of, unsure, keep, applying, the_one, combine, stops, evaluated, met, walked, cause_of, decides}
@@ -20,8 +21,6 @@ use Rattle.meaning.specs.declared.Effect.{Effect}
 use Rattle.meaning.specs.declared.Effect.TheVariants.{Permits, Denies}
 use Rattle.meaning.specs.declared.Decision.{Decision}
 use Rattle.meaning.specs.declared.Decision.TheVariants.{Permit, Deny, NotApplicable, Indeterminate}
-use Rattle.meaning.specs.declared.Cause.{Cause}
-use Rattle.meaning.specs.declared.Cause.TheVariants.{NoCause, By}
 use Rattle.meaning.specs.declared.Verdict.{Verdict}
 use Rattle.meaning.specs.declared.Verdict.TheVariants as verdict
 use Rattle.meaning.specs.declared.Algorithm.{Algorithm}
@@ -30,8 +29,8 @@ use Rattle.meaning.proofs.Seen.{seen, WorthSeen, decision_seen, same_seen}
 
 -- tests in place of equations: they compute in every case
 abbrev is_by : Cause → Bool
-is_by NoCause = false
-is_by (By s) = true
+is_by None = false
+is_by (Some s) = true
 
 abbrev lost : Decision → Type 0
 lost d = T (is d Indeterminate)
@@ -155,9 +154,9 @@ caused OnlyOne cs h = only_caused cs h
 pub always_caused : AlwaysCaused
 always_caused a cs e = go (cause_of a cs) (caused a cs (rw e tt))
   where
-    go : (k : Cause) → T (is_by k) → (s : Status) × (k ≡ By s)
-    go NoCause h = absurd h
-    go (By s) h = (s, refl)
+    go : (k : Cause) → T (is_by k) → (s : Status) × (k ≡ Some s)
+    go None h = absurd h
+    go (Some s) h = (s, refl)
 
 -- all codes seen as one
 abbrev as_one : Status → Status
@@ -172,10 +171,10 @@ plain_seen t u e = go t ∙ e ∙ sym (go u)
     go (Unknown s) = refl
 
 worth_seen : (kind : ℕ) (x y : Worth) → WorthPlain kind x y → WorthSeen as_one refl kind x y
-worth_seen kind (Lost s) (Lost t) e = refl
-worth_seen kind (Lost s) (Is y) e = e
-worth_seen kind (Is x) (Lost t) e = e
-worth_seen kind (Is x) (Is y) e = e
+worth_seen kind (Err s) (Err t) e = refl
+worth_seen kind (Err s) (Ok y) e = e
+worth_seen kind (Ok x) (Err t) e = e
+worth_seen kind (Ok x) (Ok y) e = e
 
 pub codes_forgotten : CodesForgotten
 codes_forgotten g h same n k =

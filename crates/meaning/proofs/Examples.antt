@@ -1,4 +1,5 @@
 -- Worked examples of document 02, section 3, computed. Assumes nothing.
+use Rattle.std.specs.Prelude.{Ok}
 use Prim.Native.Nat.{◌-◌, ◌^◌}
 use mathlib.Core.Path.{◌≡◌, refl}
 use mathlib.Core.List.{List, [], ◌∷◌}
@@ -12,7 +13,6 @@ use Rattle.value.specs.declared.Function.TheVariants.{Greater}
 use Rattle.sums.specs.Sums.{failed, result_of}
 use Rattle.sums.specs.declared.Operator.TheVariants.{Add, Subtract, Multiply, Divide, Remainder}
 use Rattle.sums.specs.declared.Status.TheVariants.{Missing, Processing}
-use Rattle.sums.specs.declared.Worth.TheVariants.{Is}
 use Rattle.meaning.specs.Numbers.{key_by}
 use Rattle.meaning.specs.Policy.{literal, attribute, operate, Condition, weighs}
 use Rattle.meaning.specs.Meaning.{Bags, worth, condition_of}
@@ -37,17 +37,17 @@ product_too_large = refl
 quotient_too_large : result_of Divide least (Integer (negsuc 0)) ≡ failed
 quotient_too_large = refl
 
-remainder_by_minus_one : result_of Remainder least (Integer (negsuc 0)) ≡ Is (Integer (pos 0))
+remainder_by_minus_one : result_of Remainder least (Integer (negsuc 0)) ≡ Ok (Integer (pos 0))
 remainder_by_minus_one = refl
 
 by_zero : result_of Divide most (Integer (pos 0)) ≡ failed
 by_zero = refl
 
 -- -7 / 2 is -3, and -1 is left
-toward_zero : result_of Divide (Integer (negsuc 6)) (Integer (pos 2)) ≡ Is (Integer (negsuc 2))
+toward_zero : result_of Divide (Integer (negsuc 6)) (Integer (pos 2)) ≡ Ok (Integer (negsuc 2))
 toward_zero = refl
 
-dividend's_sign : result_of Remainder (Integer (negsuc 6)) (Integer (pos 2)) ≡ Is (Integer (negsuc 0))
+dividend's_sign : result_of Remainder (Integer (negsuc 6)) (Integer (pos 2)) ≡ Ok (Integer (negsuc 0))
 dividend's_sign = refl
 
 -- front pressure (environment attribute 7, integer) plus an offset of 15 passes a limit of 50

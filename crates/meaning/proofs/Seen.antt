@@ -1,9 +1,12 @@
 -- Codes only travel: bags in which every test and attribute finds the same, each code seen as another, are answered the same, as seen. With codes seen as
 -- they are it is the claim of specs/Alike.antt, with all seen as one the last claim of specs/Codes.antt. Assumes nothing.
+use Rattle.std.specs.Prelude.{Err, None, Ok, Some}
 use Prim.Native.Nat.{ℕ}
 use mathlib.Core.Path.{◌≡◌, refl, sym, subst, ap, ap₂, ◌∙◌}
 use mathlib.Core.Bool.{Bool, true, false}
 use mathlib.Core.List.{List, [], ◌∷◌, map}
+use Rattle.sums.specs.Worth.{Worth}
+use Rattle.meaning.specs.Cause.{Cause}
 use lib.Dec.{T}
 use Rattle.record.specs.Choose.{if, both, either}
 use Rattle.value.specs.Value.{value_of, equal_of}
@@ -14,13 +17,11 @@ use Rattle.sums.specs.Equal.{WorthAlike}
 use Rattle.sums.specs.declared.Operator.{Operator}
 use Rattle.sums.specs.declared.Status.{Status}
 use Rattle.sums.specs.declared.Status.TheVariants.{Processing}
-use Rattle.sums.specs.declared.Worth.{Worth}
-use Rattle.sums.specs.declared.Worth.TheVariants.{Is, Lost}
 use Rattle.sums.proofs.Equal.{equal_operands}
 use Rattle.meaning.specs.Logic.{is_true, is_false, is_unknown, some, or_else, first, because, unless, and_all, or_all, not_of, target_all}
 use Rattle.meaning.specs.Meaning.{Bags, truth_of, match_of, comparison_of, the_only, type_of, operated, worth, weighed, condition_of, conditions_of, each, conjunction_of, section_of, sections_of, target_of, under, coded, decision_in, cause_in, when_of, rule_of, Child, verdict_in, said, owed, is, same, says, fails, first_of, unsure, keep, applying, the_one, is_only, combine, stops, evaluated, met, walked, cause_of, handed, verdict_of, node_of, over_rules, over_policies, rule_child, rule_children, child_of, children_of, decides, obliges}
 use Rattle.meaning.specs.Numbers.{key_by}
-use Rattle.meaning.specs.Policy.{Some, last, more, Conjunction, Section, Target, Expr, literal, attribute, operate, Condition, compares, weighs, all, any, not, Conditions, no_part, part, When, always, whenever, Rule, Obligation, Tree, policy, set, Trees, no_tree, tree}
+use Rattle.meaning.specs.Policy.{OneOrMore, last, more, Conjunction, Section, Target, Expr, literal, attribute, operate, Condition, compares, weighs, all, any, not, Conditions, no_part, part, When, always, whenever, Rule, Obligation, Tree, policy, set, Trees, no_tree, tree}
 use Rattle.meaning.specs.Typed.{Typed, TypedCondition, TypedConditions, TypedWhen, TypedRules, TypedTree, TypedTrees}
 use Rattle.meaning.specs.declared.Truth.{Truth}
 use Rattle.meaning.specs.declared.Truth.TheVariants.{True, False, Unknown}
@@ -29,8 +30,6 @@ use Rattle.meaning.specs.declared.Effect.{Effect}
 use Rattle.meaning.specs.declared.Effect.TheVariants.{Permits, Denies}
 use Rattle.meaning.specs.declared.Decision.{Decision}
 use Rattle.meaning.specs.declared.Decision.TheVariants.{Permit, Deny, NotApplicable, Indeterminate}
-use Rattle.meaning.specs.declared.Cause.{Cause}
-use Rattle.meaning.specs.declared.Cause.TheVariants.{NoCause, By}
 use Rattle.meaning.specs.declared.Verdict.{Verdict}
 use Rattle.meaning.specs.declared.Verdict.TheVariants as verdict
 use Rattle.meaning.specs.declared.Algorithm.{Algorithm}
@@ -54,8 +53,8 @@ module _ (see : Status → Status) (keeps : see Processing ≡ Processing) where
   seen (Unknown s) = Unknown (see s)
 
   abbrev cause_seen : Cause → Cause
-  cause_seen NoCause = NoCause
-  cause_seen (By s) = By (see s)
+  cause_seen None = None
+  cause_seen (Some s) = Some (see s)
 
   abbrev pub verdict_seen : Verdict → Verdict
   verdict_seen verdict.Permit = verdict.Permit
@@ -67,17 +66,17 @@ module _ (see : Status → Status) (keeps : see Processing ≡ Processing) where
   child_seen c = record { target = seen c.target; effect = c.effect; body = verdict_seen c.body; duties = c.duties }
 
   abbrev pub WorthSeen : ℕ → Worth → Worth → Type 0
-  WorthSeen kind (Lost s) (Lost t) = see s ≡ see t
-  WorthSeen kind (Lost s) (Is y) = ⊥
-  WorthSeen kind (Is x) (Lost t) = ⊥
-  WorthSeen kind (Is x) (Is y) = T (equal_of (value_of kind (bytes_of x)) (value_of kind (bytes_of y)))
+  WorthSeen kind (Err s) (Err t) = see s ≡ see t
+  WorthSeen kind (Err s) (Ok y) = ⊥
+  WorthSeen kind (Ok x) (Err t) = ⊥
+  WorthSeen kind (Ok x) (Ok y) = T (equal_of (value_of kind (bytes_of x)) (value_of kind (bytes_of y)))
 
   -- alike worths are alike as seen, for results of equal operands are known to be alike
   pub alike_seen : (kind : ℕ) (x y : Worth) → WorthAlike kind x y → WorthSeen kind x y
-  alike_seen kind (Lost s) (Lost t) e = ap see e
-  alike_seen kind (Lost s) (Is y) e = e
-  alike_seen kind (Is x) (Lost t) e = e
-  alike_seen kind (Is x) (Is y) e = e
+  alike_seen kind (Err s) (Err t) e = ap see e
+  alike_seen kind (Err s) (Ok y) e = e
+  alike_seen kind (Ok x) (Err t) e = e
+  alike_seen kind (Ok x) (Ok y) e = e
 
   -- what looks at no code sees no difference in a truth
   blind : {A : Type 0} (f : Truth → A) → ((s t : Status) → f (Unknown s) ≡ f (Unknown t)) → (t : Truth) → f (seen t) ≡ f t
@@ -92,16 +91,16 @@ module _ (see : Status → Status) (keeps : see Processing ≡ Processing) where
   because_seen (Unknown s) = refl
 
   or_else_seen : (c d : Cause) → or_else (cause_seen c) (cause_seen d) ≡ cause_seen (or_else c d)
-  or_else_seen NoCause d = refl
-  or_else_seen (By s) d = refl
+  or_else_seen None d = refl
+  or_else_seen (Some s) d = refl
 
   first_seen : {A : Type 0} (f : A → Cause) (k : A → A) → ((x : A) → f (k x) ≡ cause_seen (f x)) → (xs : List A) → first f (map k xs) ≡ cause_seen (first f xs)
   first_seen f k e [] = refl
   first_seen f k e (x ∷ xs) = ap₂ or_else (e x) (first_seen f k e xs) ∙ or_else_seen (f x) (first f xs)
 
   unless_seen : (c : Cause) (t : Truth) → unless (cause_seen c) (seen t) ≡ seen (unless c t)
-  unless_seen NoCause t = refl
-  unless_seen (By s) t = refl
+  unless_seen None t = refl
+  unless_seen (Some s) t = refl
 
   -- and, or and target look at codes only to hand on the first
   false_seen : (ts : List Truth) → some is_false (map seen ts) ≡ some is_false ts
@@ -154,8 +153,8 @@ module _ (see : Status → Status) (keeps : see Processing ≡ Processing) where
   coded_seen Permit k = refl
   coded_seen Deny k = refl
   coded_seen NotApplicable k = refl
-  coded_seen Indeterminate (By s) = refl
-  coded_seen Indeterminate NoCause = ap verdict.Indeterminate (sym keeps)
+  coded_seen Indeterminate (Some s) = refl
+  coded_seen Indeterminate None = ap verdict.Indeterminate (sym keeps)
 
   verdict_in_seen : (c : Child) → verdict_in (child_seen c) ≡ verdict_seen (verdict_in c)
   verdict_in_seen c = under_seen c.target c.body
@@ -231,7 +230,7 @@ module _ (see : Status → Status) (keeps : see Processing ≡ Processing) where
   evaluated_seen a (c ∷ cs) = rw (stops_seen a c, evaluated_seen a cs) (ap (◌∷◌ (child_seen c)) (if_of (map child_seen) (stops a c) [] (evaluated a cs)))
 
   met_seen : (one : Bool) (t : Truth) (later : Cause) → met one (seen t) (cause_seen later) ≡ cause_seen (met one t later)
-  met_seen true True later = ap By (sym keeps)
+  met_seen true True later = ap Some (sym keeps)
   met_seen false True later = refl
   met_seen one False later = refl
   met_seen one (Unknown s) later = refl
@@ -261,23 +260,23 @@ module _ (see : Status → Status) (keeps : see Processing ≡ Processing) where
 
   -- the first lost operand is the same one
   operated_seen : (o : Operator) (x y z w : Worth) → WorthSeen (kind_of o) x z → WorthSeen (kind_of o) y w → WorthSeen (kind_of o) (operated o x y) (operated o z w)
-  operated_seen o (Lost s) y (Lost t) w p q = p
-  operated_seen o (Lost s) y (Is z) w p q = absurd p
-  operated_seen o (Is x) y (Lost t) w p q = absurd p
-  operated_seen o (Is x) (Lost s) (Is z) (Lost t) p q = q
-  operated_seen o (Is x) (Lost s) (Is z) (Is w) p q = absurd q
-  operated_seen o (Is x) (Is y) (Is z) (Lost t) p q = absurd q
-  operated_seen o (Is x) (Is y) (Is z) (Is w) p q =
-      alike_seen (kind_of o) (operated o (Is x) (Is y)) (operated o (Is z) (Is w)) (equal_operands o (bytes_of x) (bytes_of y) (bytes_of z) (bytes_of w) p q)
+  operated_seen o (Err s) y (Err t) w p q = p
+  operated_seen o (Err s) y (Ok z) w p q = absurd p
+  operated_seen o (Ok x) y (Err t) w p q = absurd p
+  operated_seen o (Ok x) (Err s) (Ok z) (Err t) p q = q
+  operated_seen o (Ok x) (Err s) (Ok z) (Ok w) p q = absurd q
+  operated_seen o (Ok x) (Ok y) (Ok z) (Err t) p q = absurd q
+  operated_seen o (Ok x) (Ok y) (Ok z) (Ok w) p q =
+      alike_seen (kind_of o) (operated o (Ok x) (Ok y)) (operated o (Ok z) (Ok w)) (equal_operands o (bytes_of x) (bytes_of y) (bytes_of z) (bytes_of w) p q)
 
   weighed_seen : (f : Function) (k : ℕ) (x y z w : Worth) → WorthSeen k x z → WorthSeen k y w → seen (weighed f k x y) ≡ seen (weighed f k z w)
-  weighed_seen f k (Lost s) y (Lost t) w p q = ap Unknown p
-  weighed_seen f k (Lost s) y (Is z) w p q = absurd p
-  weighed_seen f k (Is x) y (Lost t) w p q = absurd p
-  weighed_seen f k (Is x) (Lost s) (Is z) (Lost t) p q = ap Unknown q
-  weighed_seen f k (Is x) (Lost s) (Is z) (Is w) p q = absurd q
-  weighed_seen f k (Is x) (Is y) (Is z) (Lost t) p q = absurd q
-  weighed_seen f k (Is x) (Is y) (Is z) (Is w) p q = ap (λ b. seen (truth_of b)) (equal_stand_alike f k (bytes_of x) (bytes_of y) (bytes_of z) (bytes_of w) p q)
+  weighed_seen f k (Err s) y (Err t) w p q = ap Unknown p
+  weighed_seen f k (Err s) y (Ok z) w p q = absurd p
+  weighed_seen f k (Ok x) y (Err t) w p q = absurd p
+  weighed_seen f k (Ok x) (Err s) (Ok z) (Err t) p q = ap Unknown q
+  weighed_seen f k (Ok x) (Err s) (Ok z) (Ok w) p q = absurd q
+  weighed_seen f k (Ok x) (Ok y) (Ok z) (Err t) p q = absurd q
+  weighed_seen f k (Ok x) (Ok y) (Ok z) (Ok w) p q = ap (λ b. seen (truth_of b)) (equal_stand_alike f k (bytes_of x) (bytes_of y) (bytes_of z) (bytes_of w) p q)
 
   -- what a word of the meaning makes of what is the same as seen is the same as seen
   through : (f : List Truth → Truth) → ((ts : List Truth) → f (map seen ts) ≡ seen (f ts)) → (ts us : List Truth) → map seen ts ≡ map seen us → seen (f ts) ≡ seen (f us)
@@ -286,7 +285,7 @@ module _ (see : Status → Status) (keeps : see Processing ≡ Processing) where
   under_both : (t u : Truth) (v w : Verdict) → seen t ≡ seen u → verdict_seen v ≡ verdict_seen w → verdict_seen (under t v) ≡ verdict_seen (under u w)
   under_both t u v w p q = sym (under_seen t v) ∙ ap₂ under p q ∙ under_seen u w
 
-  each_same : {A : Type 0} (f f' : A → Truth) → ((x : A) → seen (f x) ≡ seen (f' x)) → (xs : Some A) → map seen (each f xs) ≡ map seen (each f' xs)
+  each_same : {A : Type 0} (f f' : A → Truth) → ((x : A) → seen (f x) ≡ seen (f' x)) → (xs : OneOrMore A) → map seen (each f xs) ≡ map seen (each f' xs)
   each_same f f' e (last x) = ap (λ (t : Truth). t ∷ []) (e x)
   each_same f f' e (more x xs) = ap₂ ◌∷◌ (e x) (each_same f f' e xs)
 

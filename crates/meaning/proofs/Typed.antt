@@ -1,8 +1,10 @@
 -- Where operands are of their operator's type, it sees their values themselves: the claims of specs/Typed.antt. Assumes nothing.
+use Rattle.std.specs.Prelude.{Err, Ok}
 use Prim.Native.Nat.{ℕ, zero, suc, ◌+◌, ◌*◌, ◌/◌, ◌^◌, ◌<◌}
 use mathlib.Core.Path.{◌≡◌, refl, sym, subst}
 use mathlib.Core.Bool.{Bool, true, false}
 use mathlib.Core.List.{List, [], ◌∷◌, ◌++◌}
+use Rattle.sums.specs.Worth.{Worth}
 use lib.ListN.{length}
 use native.Mathlib.Omega.{arith}
 use Rattle.record.specs.Choose.{if}
@@ -13,8 +15,6 @@ use Rattle.sums.specs.Sums.{kind_of, result_of}
 use Rattle.sums.specs.Bytes.{Of}
 use Rattle.sums.proofs.Bytes.{as_it_is, result_of_kind}
 use Rattle.sums.specs.declared.Operator.{Operator}
-use Rattle.sums.specs.declared.Worth.{Worth}
-use Rattle.sums.specs.declared.Worth.TheVariants.{Is, Lost}
 use Rattle.meaning.specs.Numbers.{key_by, key_of, value_under, literal_of}
 use Rattle.meaning.specs.Policy.{Key, Expr, literal, attribute, operate}
 use Rattle.meaning.specs.Meaning.{Bags, gives, comparison_in, comparison_of, the_only, operated, type_of, worth, weighed, condition_of}
@@ -49,24 +49,24 @@ requests_are_fair q h key = from_fair q h key (length q / size) 0
 
 -- worths
 Made : ℕ → Worth → Type 0
-Made k (Is v) = Of k v
-Made k (Lost s) = Unit
+Made k (Ok v) = Of k v
+Made k (Err s) = Unit
 
 plain : (o : Operator) (x y : Worth) → Made (kind_of o) x → Made (kind_of o) y → operated o x y ≡ operated_plain o x y
 unfolding Made
-plain o (Lost s) y p q = refl
-plain o (Is x) (Lost s) p q = refl
-plain o (Is x) (Is y) p q = rw (as_it_is (kind_of o) x p, as_it_is (kind_of o) y q) refl
+plain o (Err s) y p q = refl
+plain o (Ok x) (Err s) p q = refl
+plain o (Ok x) (Ok y) p q = rw (as_it_is (kind_of o) x p, as_it_is (kind_of o) y q) refl
 
 made_plain : (o : Operator) (x y : Worth) → Made (kind_of o) x → Made (kind_of o) y → Made (kind_of o) (operated_plain o x y)
 unfolding Made
-made_plain o (Lost s) y p q = tt
-made_plain o (Is x) (Lost s) p q = tt
-made_plain o (Is x) (Is y) p q = go (result_of o x y) refl
+made_plain o (Err s) y p q = tt
+made_plain o (Ok x) (Err s) p q = tt
+made_plain o (Ok x) (Ok y) p q = go (result_of o x y) refl
   where
     go : (w : Worth) → result_of o x y ≡ w → Made (kind_of o) w
-    go (Is v) e = result_of_kind o x y v p q e
-    go (Lost s) e = tt
+    go (Ok v) e = result_of_kind o x y v p q e
+    go (Err s) e = tt
 
 made_only : (k : ℕ) (vs : List Value) → All k vs → Made k (the_only vs)
 unfolding Made All
@@ -95,9 +95,9 @@ operates_plainly g h o a b t =
 
 weigh_plain : (f : Function) (k : ℕ) (x y : Worth) → Made k x → Made k y → weighed f k x y ≡ weighed_plain f x y
 unfolding Made
-weigh_plain f k (Lost s) y p q = refl
-weigh_plain f k (Is x) (Lost s) p q = refl
-weigh_plain f k (Is x) (Is y) p q = rw (as_it_is k x p, as_it_is k y q) refl
+weigh_plain f k (Err s) y p q = refl
+weigh_plain f k (Ok x) (Err s) p q = refl
+weigh_plain f k (Ok x) (Ok y) p q = rw (as_it_is k x p, as_it_is k y q) refl
 
 pub weighs_plainly : WeighsPlainly
 unfolding condition_of
@@ -109,7 +109,7 @@ pub compares_as_weighed : ComparesAsWeighed
 unfolding condition_of worth comparison_of gives All
 compares_as_weighed g h t l = go (g (key_of t)) (h (key_of t))
   where
-    go : (vs : List Value) → All (key_of t).type vs → comparison_in t (the_only vs) ≡ weighed t.function (key_of t).type (Is (literal_of t)) (the_only vs)
+    go : (vs : List Value) → All (key_of t).type vs → comparison_in t (the_only vs) ≡ weighed t.function (key_of t).type (Ok (literal_of t)) (the_only vs)
     go [] a = refl
     go (v ∷ []) a =
         rw (as_it_is (key_of t).type (literal_of t) (record { bytes = t.literal; short = l; stands = refl }), as_it_is (key_of t).type v a.0) refl

@@ -1,12 +1,11 @@
 -- What is claimed of status codes (document 02, section 4): they change no decision and no obligation, and every Indeterminate has one.
 -- `proofs/Forgets.antt` and `proofs/Codes.antt` prove it. Assumes nothing.
-use Rattle.std.specs.Prelude.{ℕ, ◌≡◌, List, T}
+use Rattle.std.specs.Prelude.{ℕ, ◌≡◌, List, T, Err, Ok, Some}
+use Rattle.sums.specs.Worth.{Worth}
 use Rattle.value.specs.Value.{value_of, equal_of}
 use Rattle.sums.specs.Sums.{bytes_of}
 use Rattle.sums.specs.declared.Status.{Status}
 use Rattle.sums.specs.declared.Status.TheVariants.{Processing}
-use Rattle.sums.specs.declared.Worth.{Worth}
-use Rattle.sums.specs.declared.Worth.TheVariants.{Is, Lost}
 use Rattle.meaning.specs.Numbers.{key_by}
 use Rattle.meaning.specs.Meaning.{Bags, match_of, the_only, comparison_of, decision_in, Child, combine, cause_of, verdict_of, decides, obliges}
 use Rattle.meaning.specs.Policy.{Tree}
@@ -15,7 +14,6 @@ use Rattle.meaning.specs.declared.Truth.{Truth}
 use Rattle.meaning.specs.declared.Truth.TheVariants.{True, False, Unknown}
 use Rattle.meaning.specs.declared.Test.{Test}
 use Rattle.meaning.specs.declared.Decision.TheVariants.{Indeterminate}
-use Rattle.meaning.specs.declared.Cause.TheVariants.{By}
 use Rattle.meaning.specs.declared.Algorithm.{Algorithm}
 
 -- a verdict without its code is what the algorithm decides, which looks at no code
@@ -24,7 +22,7 @@ Forgets = (a : Algorithm) (cs : List Child) → decision_in (verdict_of a cs) �
 
 -- where an algorithm decides Indeterminate there is a cause: the last row of `coded` is never met
 abbrev pub AlwaysCaused : Type 0
-AlwaysCaused = (a : Algorithm) (cs : List Child) → combine a cs ≡ Indeterminate → (s : Status) × (cause_of a cs ≡ By s)
+AlwaysCaused = (a : Algorithm) (cs : List Child) → combine a cs ≡ Indeterminate → (s : Status) × (cause_of a cs ≡ Some s)
 
 -- a truth without its code
 abbrev pub plain : Truth → Truth
@@ -34,10 +32,10 @@ plain (Unknown s) = Unknown Processing
 
 -- both are lost, for whatever reason, or the eight bytes of both stand for equal values of this type
 abbrev pub WorthPlain : ℕ → Worth → Worth → Type 0
-WorthPlain kind (Lost s) (Lost t) = Unit
-WorthPlain kind (Lost s) (Is y) = ⊥
-WorthPlain kind (Is x) (Lost t) = ⊥
-WorthPlain kind (Is x) (Is y) = T (equal_of (value_of kind (bytes_of x)) (value_of kind (bytes_of y)))
+WorthPlain kind (Err s) (Err t) = Unit
+WorthPlain kind (Err s) (Ok y) = ⊥
+WorthPlain kind (Ok x) (Err t) = ⊥
+WorthPlain kind (Ok x) (Ok y) = T (equal_of (value_of kind (bytes_of x)) (value_of kind (bytes_of y)))
 
 -- every test and every attribute finds the same in both, but for codes
 pub record FoundPlain (g h : Bags) : Type 0 where

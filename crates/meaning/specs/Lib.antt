@@ -1,3 +1,4 @@
+pub mod Cause
 pub mod Logic
 pub mod Policy
 pub mod Numbers

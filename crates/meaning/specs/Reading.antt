@@ -10,7 +10,7 @@ use Rattle.sums.specs.Sums.{kind_of}
 use Rattle.sums.specs.declared.Operator.{Operator}
 use Rattle.sums.specs.declared.Operator.TheVariants.{Add, Subtract, Multiply, Divide, Remainder, DoubleAdd}
 use Rattle.meaning.specs.Numbers.{key_number, key_by, value_under}
-use Rattle.meaning.specs.Policy.{Key, Some, last, more, Conjunction, Section, Target, Expr, literal, attribute, operate, Condition, compares, weighs, all, any, not, Conditions, no_part, part, When, always, whenever, Rule, Obligation, OverRules, rulesDeny, rulesPermit, rulesFirst, OverPolicies, policiesDeny, policiesPermit, policiesFirst, policiesOnlyOne, Tree, policy, set, Trees, no_tree, tree}
+use Rattle.meaning.specs.Policy.{Key, OneOrMore, last, more, Conjunction, Section, Target, Expr, literal, attribute, operate, Condition, compares, weighs, all, any, not, Conditions, no_part, part, When, always, whenever, Rule, Obligation, OverRules, rulesDeny, rulesPermit, rulesFirst, OverPolicies, policiesDeny, policiesPermit, policiesFirst, policiesOnlyOne, Tree, policy, set, Trees, no_tree, tree}
 use Rattle.meaning.specs.Meaning.{Bags}
 use Rattle.meaning.specs.declared.Test.{Test}
 use Rattle.meaning.specs.declared.Effect.{Effect}
@@ -50,12 +50,12 @@ unfoldable pub comparison_at : List ℕ → ℕ → Test
 comparison_at b i = test_at b i (choice_at b i - 10)
 
 -- record i with the children `kids`, and the records after it
-unfoldable pub row_of : {A : Type 0} → (ℕ → Forest → A) → ℕ → Forest → Forest → Some A
+unfoldable pub row_of : {A : Type 0} → (ℕ → Forest → A) → ℕ → Forest → Forest → OneOrMore A
 row_of read i kids none = last (read i kids)
 row_of read i kids (node j below rest) = more (read i kids) (row_of read j below rest)
 
 -- the children of record i, at least one; where there is none it stands for its own child
-unfoldable pub children_at : {A : Type 0} → (ℕ → Forest → A) → ℕ → Forest → Some A
+unfoldable pub children_at : {A : Type 0} → (ℕ → Forest → A) → ℕ → Forest → OneOrMore A
 children_at read i none = last (read i none)
 children_at read i (node j kids rest) = row_of read j kids rest
 

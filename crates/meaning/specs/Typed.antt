@@ -1,6 +1,7 @@
 -- What is claimed of values in conditions: where operands are of their operator's type, it sees their values themselves. `proofs/Typed.antt` proves
 -- it. Assumes nothing.
-use Rattle.std.specs.Prelude.{ℕ, ◌^◌, ◌<◌, ◌≡◌, List, [], ◌∷◌}
+use Rattle.std.specs.Prelude.{ℕ, ◌^◌, ◌<◌, ◌≡◌, List, [], ◌∷◌, Err, Ok}
+use Rattle.sums.specs.Worth.{Worth}
 use Rattle.record.specs.Bytes.{Bytes}
 use Rattle.value.specs.Value.{test_of}
 use Rattle.value.specs.declared.Function.{Function}
@@ -8,8 +9,6 @@ use Rattle.value.specs.declared.Value.{Value}
 use Rattle.sums.specs.Sums.{kind_of, result_of}
 use Rattle.sums.specs.Bytes.{Of}
 use Rattle.sums.specs.declared.Operator.{Operator}
-use Rattle.sums.specs.declared.Worth.{Worth}
-use Rattle.sums.specs.declared.Worth.TheVariants.{Is, Lost}
 use Rattle.meaning.specs.declared.Test.{Test}
 use Rattle.meaning.specs.declared.Truth.{Truth}
 use Rattle.meaning.specs.declared.Truth.TheVariants.{Unknown}
@@ -69,18 +68,18 @@ RequestsAreFair = (q : List ℕ) → Bytes q → Fair (bags_of q)
 
 -- the worth of a value is of its type
 abbrev pub WorthIsTyped : Type 0
-WorthIsTyped = (g : Bags) → Fair g → (e : Expr) → Typed e → (v : Value) → worth g e ≡ Is v → Of (type_of e) v
+WorthIsTyped = (g : Bags) → Fair g → (e : Expr) → Typed e → (v : Value) → worth g e ≡ Ok v → Of (type_of e) v
 
 -- the operator of the operands' values themselves, the function of the two values themselves
 abbrev pub operated_plain : Operator → Worth → Worth → Worth
-operated_plain o (Lost s) b = Lost s
-operated_plain o (Is x) (Lost s) = Lost s
-operated_plain o (Is x) (Is y) = result_of o x y
+operated_plain o (Err s) b = Err s
+operated_plain o (Ok x) (Err s) = Err s
+operated_plain o (Ok x) (Ok y) = result_of o x y
 
 abbrev pub weighed_plain : Function → Worth → Worth → Truth
-weighed_plain f (Lost s) b = Unknown s
-weighed_plain f (Is x) (Lost s) = Unknown s
-weighed_plain f (Is x) (Is y) = truth_of (test_of f x y)
+weighed_plain f (Err s) b = Unknown s
+weighed_plain f (Ok x) (Err s) = Unknown s
+weighed_plain f (Ok x) (Ok y) = truth_of (test_of f x y)
 
 abbrev pub OperatesPlainly : Type 0
 OperatesPlainly = (g : Bags) → Fair g → (o : Operator) (a b : Expr) → Typed (operate o a b) → worth g (operate o a b) ≡ operated_plain o (worth g a) (worth g b)

@@ -6,18 +6,22 @@ ghost use Rattle.mending.specs.Salvaged.{answer_of, mended_out, replaced_out};
 ghost use Rattle.mending.specs.Caller.{Within};
 ghost use Rattle.mender.specs.Mender.{salvaged_number};
 
-use mending::Salvaged;
+use mending::Counts;
+use record::Refusal;
 
-fn number(answer: Salvaged) -> u64
+// Where the fields of the number start: the records, and the replacements above them.
+const RECORDS: u64 = 256;
+
+const REPLACEMENTS: u64 = 16777216;
+
+// The answer as one number. Kept: `as`, since a `u64` has no `From<usize>`.
+fn number(answer: Result<Counts, Refusal>) -> u64
     requires { Within answer }
     ensures { result ≡ salvaged_number answer }
 {
     match answer {
-        Salvaged::Mended {
-            records,
-            replacements,
-        } => 256 * records as u64 + 16777216 * replacements as u64,
-        Salvaged::Refused(refusal) => record::refusal_number(refusal),
+        Ok(mended) => RECORDS * mended.records as u64 + REPLACEMENTS * mended.replacements as u64,
+        Err(refusal) => record::refusal_number(refusal),
     }
 }
 

@@ -1,4 +1,5 @@
 -- What `salvage` answers, return by return, and what it leaves in the lent outputs. Assumes nothing.
+use Rattle.std.specs.Prelude.{Err}
 use mathlib.Core.Path.{◌≡◌, refl, sym, ◌∙◌}
 use mathlib.Core.Bool.{Bool, true, false}
 use mathlib.Core.List.{List, [], ◌∷◌, ◌++◌, append_assoc}
@@ -9,6 +10,7 @@ use lib.Seq.{set-append_left}
 use borrow.Author.Tests.{lt-ltb, le-ltb, ne_eqb}
 use Rattle.record.specs.Bytes.{size, most_records, byte_of}
 use Rattle.record.specs.Stored.{stored}
+use Rattle.record.specs.Refusals as refusals
 use Rattle.record.specs.Refusals.{no_record, cut_short, too_many, no_room, spoilt}
 use Rattle.record.specs.declared.Refusal.{Refusal}
 use Rattle.record.proofs.Stored.{stored_then, stored_pair, stored_first}
@@ -23,9 +25,7 @@ use Rattle.spoilt.specs.Spoilt.{first_spoilt, is_set}
 use Rattle.spoilt.specs.Places.{parent, spoilt_at}
 use Rattle.mending.specs.Mending.{mended, Replacement, replacements, Mended, Spoilt, headed, salvage_of}
 use Rattle.mending.specs.Places.{mended_from, replaced_from}
-use Rattle.mending.specs.Salvaged.{answer_by, answer_of, bytes_of_all, records_in, replaced_in, leaves, mended_out, replaced_out}
-use Rattle.mending.specs.declared.Salvaged.{Salvaged}
-use Rattle.mending.specs.declared.Salvaged.TheVariants as salvaged
+use Rattle.mending.specs.Salvaged.{answer_by, answer_of, bytes_of_all, records_in, replaced_in, leaves, mended_out, replaced_out, Salvaged, mended_with}
 use Rattle.mending.proofs.Mended.{headed_count, headed_bytes}
 use Rattle.mending.proofs.Answers.{not_set, line_spoilt, no_line_spoilt, whole_set}
 use Rattle.mending.proofs.Kept.{mended_is_kept}
@@ -57,30 +57,28 @@ Answered b n o p a l q =
     × (q ≡ leaves a (replaced_in (salvage_of b n)) p)
 
 module _ (b : List ℕ) (n : ℕ) (o p : List ℕ) where
-  refused : (r : Refusal) → answer_by (salvage_of b n) n (length o) (length p) ≡ salvaged.Refused r → Answered b n o p (salvaged.Refused r) o p
+  refused : (r : Refusal) → answer_by (salvage_of b n) n (length o) (length p) ≡ Err r → Answered b n o p (Err r) o p
   unfolding leaves
   refused r e = (sym e, refl, refl)
 
-  pub answer_not_set : {t : Bool} {r : Refusal} → t ≡ is_set b n → t ≡ false → r ≡ spoilt 1 → Answered b n o p (salvaged.Refused r) o p
+  pub answer_not_set : {t : Bool} → t ≡ is_set b n → t ≡ false → Answered b n o p (Err (spoilt 1)) o p
   unfolding answer_by
-  answer_not_set {r = r} et z er = refused r (rw (not_set b n (sym et ∙ z), er) refl)
+  answer_not_set et z = refused (spoilt 1) (rw (not_set b n (sym et ∙ z)) refl)
 
   module _ {t : Bool} {c x : ℕ} (et : t ≡ is_set b n) (z : t ≡ true) (some : 1 ≤ n) (ec : c ≡ byte_of b 0 4) (ex : x ≡ spoilt_at (parent 1 1 c c) 0 b 1 (n - 1)) where
-    pub answer_spoilt : {r : Refusal} → x < n → r ≡ spoilt (x + 1) → Answered b n o p (salvaged.Refused r) o p
+    pub answer_spoilt : x < n → Answered b n o p (Err (spoilt (x + 1))) o p
     unfolding answer_by
-    answer_spoilt {r} l er = refused r (rw (is_spoilt b n (sym et ∙ z) some ec ex l, er) refl)
+    answer_spoilt l = refused (spoilt (x + 1)) (rw (is_spoilt b n (sym et ∙ z) some ec ex l) refl)
 
     module _ (l : n ≤ x) where
-      pub answer_short : {r : Refusal} → length b ≡ n * size → length o < length b → r ≡ no_room → Answered b n o p (salvaged.Refused r) o p
+      pub answer_short : length b ≡ n * size → length o < length b → Answered b n o p (Err no_room) o p
       unfolding answer_by
-      answer_short {r} long h er =
-          refused r (rw (is_mended b n (sym et ∙ z) some ec ex l, lt-ltb (length o) (n * size) (omega arith), er) refl)
+      answer_short long h = refused no_room (rw (is_mended b n (sym et ∙ z) some ec ex l, lt-ltb (length o) (n * size) (omega arith)) refl)
 
-      pub answer_few : {r : Refusal} → length b ≡ n * size → length b ≤ length o → length p < n * 2 → r ≡ no_room → Answered b n o p (salvaged.Refused r) o p
+      pub answer_few : length b ≡ n * size → length b ≤ length o → length p < n * 2 → Answered b n o p (Err no_room) o p
       unfolding answer_by
-      answer_few {r} long h k er =
-          refused r
-          (rw (is_mended b n (sym et ∙ z) some ec ex l, le-ltb (length o) (n * size) (omega arith), lt-ltb (length p) (n * 2) k, er) refl)
+      answer_few long h k =
+          refused no_room (rw (is_mended b n (sym et ∙ z) some ec ex l, le-ltb (length o) (n * size) (omega arith), lt-ltb (length p) (n * 2) k) refl)
 
 -- line 1, what is mended, and then line 1's span
 module _ (o r ys : List ℕ) (k : ℕ) (long : length r ≡ size) (fits : size + length ys ≤ length o) where
@@ -126,7 +124,7 @@ module _ (b : List ℕ) (n : ℕ) (o p : List ℕ) (sized : Sized b n) {t : Bool
   pub answer_done : {k m : ℕ} {l1 l2 l3 q : List ℕ} → length b ≤ length o → n * 2 ≤ length p → l1 ≡ stored o (0 * size) (slice_of b 0 1)
       → l2 ≡ stored l1 size (mended_from b n c 1) → k * size ≡ size + length (mended_from b n c 1)
       → q ≡ stored p 0 (bytes_of_all (replaced_from b n c 1)) → m ≡ length (replaced_from b n c 1) → k ≤ n → m * 2 ≤ n
-      → l3 ≡ stored l2 2 (k / 256 ∷ k % 256 ∷ []) → Answered b n o p (salvaged.Mended k m) l3 q
+      → l3 ≡ stored l2 2 (k / 256 ∷ k % 256 ∷ []) → Answered b n o p (mended_with k m) l3 q
   unfolding answer_by leaves records_in replaced_in mended_from replaced_from
   answer_done {k} {m} fits few e1 e2 ek eq em most half e3 =
       let r : List ℕ = record_at b 0 in
@@ -144,20 +142,20 @@ module _ (b : List ℕ) (n : ℕ) (o p : List ℕ) (sized : Sized b n) {t : Bool
 abbrev pub Salvages : List ℕ → List ℕ → List ℕ → Salvaged → List ℕ → List ℕ → Type 0
 Salvages b o p a l q = (a ≡ answer_of b (length o) (length p)) × (l ≡ mended_out b a o) × (q ≡ replaced_out b a p)
 
-module _ (b o p : List ℕ) {r : Refusal} where
-  pub salvages_none : length b ≡ 0 → r ≡ no_record 1 → Salvages b o p (salvaged.Refused r) o p
+module _ (b o p : List ℕ) where
+  pub salvages_none : length b ≡ 0 → Salvages b o p (Err (no_record refusals.book)) o p
   unfolding answer_of mended_out replaced_out leaves
-  salvages_none e er = (rw (er, e) refl, refl, refl)
+  salvages_none e = (rw e refl, refl, refl)
 
   module _ (some : length b ≡ 0 → ⊥) where
-    pub salvages_cut : (length b % size ≡ 0 → ⊥) → r ≡ cut_short 1 → Salvages b o p (salvaged.Refused r) o p
+    pub salvages_cut : (length b % size ≡ 0 → ⊥) → Salvages b o p (Err (cut_short refusals.book)) o p
     unfolding answer_of mended_out replaced_out leaves
-    salvages_cut c er = (rw (er, ne_eqb (length b) 0 some, lt-ltb 0 (length b % size) (omega arith)) refl, refl, refl)
+    salvages_cut c = (rw (ne_eqb (length b) 0 some, lt-ltb 0 (length b % size) (omega arith)) refl, refl, refl)
 
-    pub salvages_many : length b % size ≡ 0 → most_records * size < length b → r ≡ too_many 1 → Salvages b o p (salvaged.Refused r) o p
+    pub salvages_many : length b % size ≡ 0 → most_records * size < length b → Salvages b o p (Err (too_many refusals.book)) o p
     unfolding answer_of mended_out replaced_out leaves
-    salvages_many c m er =
-        (rw (er, ne_eqb (length b) 0 some, le-ltb 0 (length b % size) (omega arith), lt-ltb (most_records * size) (length b) m) refl, refl, refl)
+    salvages_many c m =
+        (rw (ne_eqb (length b) 0 some, le-ltb 0 (length b % size) (omega arith), lt-ltb (most_records * size) (length b) m) refl, refl, refl)
 
 -- bytes of the right length are answered by their records
 pub sized_answer : (b : List ℕ) (n room places : ℕ) → Sized b n → answer_of b room places ≡ answer_by (salvage_of b n) n room places

@@ -1,4 +1,5 @@
 -- What a caller knows by the answer of `salvage`: the claims of `specs/Caller.antt`. Assumes nothing.
+use Rattle.std.specs.Prelude.{Err}
 use mathlib.Core.Path.{◌≡◌, refl, sym, ap, ◌∙◌}
 use mathlib.Core.List.{List, []}
 use Prim.Native.Nat.{ℕ, ◌-◌, ◌*◌, ◌/◌, ◌%◌, ◌≤◌, ◌<◌}
@@ -9,23 +10,21 @@ use lib.Seq.{take_at}
 use borrow.Author.Tests.{le-ltb, eqb-false, ltb-false}
 use Rattle.record.specs.Choose.{either}
 use Rattle.record.specs.Bytes.{size, most_records}
-use Rattle.record.specs.Refusals.{book, no_record, cut_short, too_many, no_room, spoilt}
+use Rattle.record.specs.Refusals.{part_number, number_of, part_of, line_of, book, no_record, cut_short, too_many, no_room, spoilt}
 use Rattle.record.specs.declared.Refusal.{Refusal}
 use Rattle.fields.specs.Fields.{obligations_of}
 use Rattle.fields.proofs.First.{by}
 use Rattle.placement.specs.Keeps.{Sized}
-use Rattle.judge.specs.Judge.{judge_of}
-use Rattle.judge.specs.declared.Judged.TheVariants.{Accepted}
+use Rattle.judge.specs.Judge.{judge_of, accepted_with}
 use Rattle.judge.proofs.Exactly.{sized_is}
 use Rattle.structure.specs.Subtrees.{Subtrees, record_count, subtrees_of, bytes_of}
 use Rattle.structure.specs.Sound.{line_one}
 use Rattle.structure.proofs.Subtrees.{count_subtrees}
 use Rattle.mending.specs.Mending.{Replacement, Salvage, Mended, Spoilt, salvage_of}
-use Rattle.mending.specs.Salvaged.{answer_by, answer_of, records_in, leaves, mended_out}
+use Rattle.mending.specs.Salvaged.{answer_by, answer_of, records_in, leaves, mended_out, Salvaged, mended_with}
+use Rattle.mending.specs.declared.Counts.{Counts}
 use Rattle.mending.specs.Claims.{Spoils, line_one_spoils, later_spoils}
 use Rattle.mending.specs.Caller.{left, SalvagedIsAccepted, SalvagedOnce, SpoilsIsTold, ToldSpoils, Within, AnswersWithin}
-use Rattle.mending.specs.declared.Salvaged.{Salvaged}
-use Rattle.mending.specs.declared.Salvaged.TheVariants as salvaged
 use Rattle.mending.proofs.Mended.{count_replaced}
 use Rattle.mending.proofs.Answers.{answer}
 use Rattle.mending.proofs.Kept.{mended_is_kept, mended_once}
@@ -34,9 +33,9 @@ use Rattle.mending.proofs.Answering.{sized_answer}
 
 -- what is answered, by whether there are n records and what salvage makes of them: another refusal, of no line; 13; or the book mended
 pub data Told (b : List ℕ) (n : ℕ) (a : Salvaged) : Type 0 where
-  told_other : (r : Refusal) → a ≡ salvaged.Refused r → r.number < 13 → r.part ≤ 3 → r.line ≡ 0 → Told b n a
-  told_line : (line : ℕ) → a ≡ salvaged.Refused (spoilt line) → Sized b n → salvage_of b n ≡ Spoilt line → Told b n a
-  told_mended : (x : Subtrees) (xs : List Replacement) → a ≡ salvaged.Mended (record_count x) (length xs) → Sized b n → salvage_of b n ≡ Mended x xs → Told b n a
+  told_other : (r : Refusal) → a ≡ Err r → number_of r < 13 → part_number (part_of r) ≤ 3 → line_of r ≡ 0 → Told b n a
+  told_line : (line : ℕ) → a ≡ Err (spoilt line) → Sized b n → salvage_of b n ≡ Spoilt line → Told b n a
+  told_mended : (x : Subtrees) (xs : List Replacement) → a ≡ mended_with (record_count x) (length xs) → Sized b n → salvage_of b n ≡ Mended x xs → Told b n a
 
 told_by : (b : List ℕ) (n room places : ℕ) → Sized b n → (s : Salvage) → salvage_of b n ≡ s → Told b n (answer_by s n room places)
 unfolding answer_by
@@ -55,14 +54,16 @@ told b room places =
     rw (t, u, v) (told_by b (length b / size) room places sized (salvage_of b (length b / size)) refl))))
 
 -- an answer is one of the two
-pub not_mended : {A : Type 0} {n m : ℕ} {r : Refusal} → salvaged.Refused r ≡ salvaged.Mended n m → A
+pub not_mended : {A : Type 0} {n m : ℕ} {r : Refusal} → Err r ≡ mended_with n m → A
 not_mended e = let z : ◌≡◌ {A = ℕ} 0 1 = cc in absurd (omega arith)
 
-same_refusal : (r s : Refusal) → salvaged.Refused r ≡ salvaged.Refused s → r ≡ s
+same_refusal : (r s : Refusal) → ◌≡◌ {A = Salvaged} (Err r) (Err s) → r ≡ s
 same_refusal r s e = cc
 
-pub same_counts : (k j n m : ℕ) → salvaged.Mended k j ≡ salvaged.Mended n m → (k ≡ n) × (j ≡ m)
-same_counts k j n m e = ((cc), (cc))
+pub same_counts : (k j n m : ℕ) → mended_with k j ≡ mended_with n m → (k ≡ n) × (j ≡ m)
+same_counts k j n m e =
+    let c : ◌≡◌ {A = Counts} (record { records = k; replacements = j }) (record { records = n; replacements = m }) = cc in
+    (ap (λ (x : Counts). x.records) c, ap (λ (x : Counts). x.replacements) c)
 
 -- n mended records: they are accepted, and stay as they are when they are mended again
 record Mends (b : List ℕ) (n : ℕ) : Type 0 where
@@ -70,10 +71,10 @@ record Mends (b : List ℕ) (n : ℕ) : Type 0 where
   count : record_count tree ≡ n
   is : records_in (salvage_of b (length b / size)) ≡ bytes_of tree
   sized : Sized (bytes_of tree) n
-  accepted : judge_of (bytes_of tree) ≡ Accepted n (obligations_of (bytes_of tree) n)
+  accepted : judge_of (bytes_of tree) ≡ accepted_with n (obligations_of (bytes_of tree) n)
   stays : salvage_of (bytes_of tree) n ≡ Mended tree []
 
-mends_of : (b : List ℕ) (room places n m : ℕ) → answer_of b room places ≡ salvaged.Mended n m → Mends b n
+mends_of : (b : List ℕ) (room places n m : ℕ) → answer_of b room places ≡ mended_with n m → Mends b n
 unfolding records_in
 mends_of b room places n m h = go (told b room places)
   where
@@ -98,7 +99,7 @@ salvaged_is_accepted b out places n m e =
 
 -- a book that stays as it is
 again : (x : Subtrees) (n : ℕ) → record_count x ≡ n → Sized (bytes_of x) n → salvage_of (bytes_of x) n ≡ Mended x [] → (room more : ℕ) → n * size ≤ room → n * 2 ≤ more
-    → (answer_of (bytes_of x) room more ≡ salvaged.Mended n 0) × (records_in (salvage_of (bytes_of x) n) ≡ bytes_of x)
+    → (answer_of (bytes_of x) room more ≡ mended_with n 0) × (records_in (salvage_of (bytes_of x) n) ≡ bytes_of x)
 unfolding answer_by records_in
 again x n q sized s room more l h =
     (sized_answer (bytes_of x) n room more sized ∙ rw (s, le-ltb room (n * size) l, le-ltb more (n * 2) h, q) refl, rw s refl)
@@ -117,9 +118,9 @@ pub told_spoils : ToldSpoils
 told_spoils b line room places h = go (told b room places)
   where
     go : Told b (length b / size) (answer_of b room places) → Sized b (length b / size) × Spoils b (length b / size) line
-    go (told_other r e l p z) = absurd (omega (arith, ap (λ (r : Refusal). r.number) (same_refusal r (spoilt line) (sym e ∙ h)), l))
+    go (told_other r e l p z) = absurd (omega (arith, ap number_of (same_refusal r (spoilt line) (sym e ∙ h)), l))
     go (told_line k e sz s) =
-        let q : k ≡ line = ap (λ (r : Refusal). r.line) (same_refusal (spoilt k) (spoilt line) (sym e ∙ h)) in
+        let q : k ≡ line = ap line_of (same_refusal (spoilt k) (spoilt line) (sym e ∙ h)) in
         (sz, rw q at (spoilt_spoils b (length b / size) k s))
     go (told_mended x xs e sz s) = not_mended (sym h ∙ e)
 

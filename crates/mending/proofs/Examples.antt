@@ -1,4 +1,5 @@
 -- Half-copied books mended by computation. Assumes nothing.
+use Rattle.std.specs.Prelude.{Err}
 use mathlib.Core.Path.{◌≡◌, refl}
 use mathlib.Core.List.{List, [], ◌∷◌}
 use Prim.Native.Nat.{ℕ}
@@ -16,9 +17,7 @@ use Rattle.structure.specs.Subtrees.{record_count, record_at, subtrees_in, subtr
 use Rattle.structure.specs.Sound.{record_ok, child_ok, operands_in, sound}
 use Rattle.spoilt.specs.Spoilt.{line_ok, good_at, replaceable, inside_at, mendable_at, first_spoilt, is_set}
 use Rattle.mending.specs.Mending.{mended, replacements, headed, salvage_of}
-use Rattle.mending.specs.Salvaged.{answer_by, answer_of, bytes_of_all, records_in, replaced_in}
-use Rattle.mending.specs.declared.Salvaged.{Salvaged}
-use Rattle.mending.specs.declared.Salvaged.TheVariants.{Mended, Refused}
+use Rattle.mending.specs.Salvaged.{answer_by, answer_of, bytes_of_all, records_in, replaced_in, Salvaged, mended_with}
 
 -- a set of a section, a policy of two rules, a set of no policy, a policy of one rule and an obligation
 book : List ℕ
@@ -59,7 +58,7 @@ answers =
     ∷ []
 
 computed : answers ≡
-    Mended 11 0 ∷ Mended 10 1 ∷ Mended 10 2 ∷ Refused (spoilt 9) ∷ Refused (spoilt 9) ∷ Refused (spoilt 4) ∷ Refused (spoilt 1) ∷ Refused (spoilt 1) ∷ Refused no_room ∷ []
+    mended_with 11 0 ∷ mended_with 10 1 ∷ mended_with 10 2 ∷ Err (spoilt 9) ∷ Err (spoilt 9) ∷ Err (spoilt 4) ∷ Err (spoilt 1) ∷ Err (spoilt 1) ∷ Err no_room ∷ []
 unfolding book twice answer answers span_of all_below span_in grow_f forest tab bytes lines book_a first_from kind_of kind_at type_of type_at zeros plain_ok section_ok compares_ok obligation_ok field_ok rank_at stands_ok record_count record_at subtrees_in subtrees_of record_ok child_ok operands_in sound line_ok good_at replaceable inside_at mendable_at first_spoilt is_set mended replacements headed salvage_of answer_by answer_of
 computed = refl
 

@@ -1,4 +1,3 @@
-pub mod Copied
 pub mod Mended
 pub mod Mending
 pub mod Answers

@@ -14,7 +14,10 @@ use Rattle.placement.specs.Place.{kind_number}
 use Rattle.structure.specs.Subtrees.{record_count, record_at, slice_of}
 use Rattle.structure.proofs.Subtrees.{count_subtrees}
 use Rattle.spoilt.specs.Places.{parent, bad_at, spoilt_at}
+use Rattle.record.proofs.Steps.{Left, step}
 use Rattle.spoilt.proofs.Lines.{Kept, subtrees_end}
+use Rattle.record.specs.Siblings.{Passes}
+use Rattle.record.specs.declared.siblings.Siblings.{Siblings}
 use Rattle.spoilt.proofs.Walk.{kids, rest, tree, kids_sound, kids_unsound, bad_ge, Unspoilt, unspoilt_kept, unspoilt_next}
 use Rattle.mending.specs.Mending.{deny_policy, deny_rule, Replacement}
 use Rattle.mending.specs.Places.{mended_from, replaced_from}
@@ -140,6 +143,35 @@ module _ {b : List ℕ} {n c : ℕ} {o p : List ℕ} {i : ℕ} {l : List ℕ} {k
           listed = rw e at w.listed;
           counted = rw e at w.counted;
         }
+
+-- what a turn of the walk knows of its record, which is the next of those that are left
+pub record Turn (b : List ℕ) (n c : ℕ) (o p : List ℕ) (w : Siblings) (l : List ℕ) (k : ℕ) (q : List ℕ) (m i s : ℕ) (v : Siblings) : Type 0 where
+  pub mending : Mending b n c o p i l k q m
+  pub place : w.at ≡ i
+  pub inside : i < n
+  pub span : s ≡ span_of b i
+  pub some : 1 ≤ s
+  pub within : i + s ≤ n
+  pub next : v.at ≡ i + s
+  pub left : Left v b v.at n
+
+pub turn : {b : List ℕ} {n c : ℕ} {o p : List ℕ} {w : Siblings} {l : List ℕ} {k : ℕ} {q : List ℕ} {m i s : ℕ} {v : Siblings} → Mending b n c o p w.at l k q m
+    → Left w b w.at n → Passes w i s v → Turn b n c o p w l k q m i s v
+turn {b} {n} {i = i} {s = s} x f g =
+    let z = step f g in
+    let y = rw z.place at x in
+    let h = mending_kept y z.inside in
+    let span : s ≡ span_of b i = z.span ∙ span_stated b i (n - i) h.some (omega (arith, h.within)) in
+    record {
+      mending = y;
+      place = z.place;
+      inside = z.inside;
+      span = span;
+      some = omega (arith, span, h.some);
+      within = omega (arith, span, h.within);
+      next = z.next;
+      left = z.left;
+    }
 
 -- at the end all is stored
 pub mending_last : {b : List ℕ} {n c : ℕ} {o p : List ℕ} {i : ℕ} {l : List ℕ} {k : ℕ} {q : List ℕ} {m : ℕ} → Mending b n c o p i l k q m → n ≤ i

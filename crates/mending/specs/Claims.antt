@@ -11,8 +11,7 @@ use Rattle.meaning.specs.declared.Effect.TheVariants.{Denies}
 use Rattle.meaning.specs.declared.Verdict.TheVariants.{Deny}
 use Rattle.placement.specs.Place.{kind_number}
 use Rattle.placement.specs.Keeps.{FirstToBreak, Sized, Keeps}
-use Rattle.judge.specs.Judge.{judge_of}
-use Rattle.judge.specs.declared.Judged.TheVariants.{Accepted}
+use Rattle.judge.specs.Judge.{judge_of, accepted_with}
 use Rattle.structure.specs.Subtrees.{Subtrees, record_count, record_at, subtrees_of, bytes_of, with_span, slice_of, SameRecords}
 use Rattle.structure.specs.Sound.{as_parent, line_one, sound_at}
 use Rattle.spoilt.specs.Spoilt.{line_ok, good_at, mendable_at, is_set}
@@ -23,7 +22,7 @@ abbrev pub MendedIsKept : Type 0
 MendedIsKept =
     (b : List ℕ) (n : ℕ) → Sized b n → (x : Subtrees) (xs : List Replacement) → salvage_of b n ≡ Mended x xs
     → Keeps (bytes_of x) (record_count x)
-    × (judge_of (bytes_of x) ≡ Accepted (record_count x) (obligations_of (bytes_of x) (record_count x)))
+    × (judge_of (bytes_of x) ≡ accepted_with (record_count x) (obligations_of (bytes_of x) (record_count x)))
     × (record_count x ≤ n)
 
 -- a sound book with a root set comes back as it was, and nothing is replaced

@@ -10,14 +10,8 @@ ghost use Rattle.mending.specs.Mending.{deny_policy, deny_rule, salvage_of};
 ghost use Rattle.mending.specs.Places.{mended_from, replaced_from};
 ghost use Rattle.mending.specs.Salvaged.{bytes_of_all, answer_by, answer_of, leaves, records_in, replaced_in, mended_out, replaced_out};
 
-use record::Refusal;
-
-// What salvage answers: a book mended, with so many records and replacements, or a refusal.
-#[derive(Clone, Copy)]
-pub enum Salvaged {
-    Mended { records: usize, replacements: usize },
-    Refused(Refusal),
-}
+use record::siblings::Siblings;
+use record::{Part, Refusal, SIZE};
 
 // The bytes of a replacement: its first old line and its old count, two each.
 pub const REPLACEMENT: usize = 4;
@@ -27,14 +21,7 @@ fn copy(book: &[u8], i: usize, n: usize, out: &mut [u8], k: usize)
     requires { ((i + n) * size ≤ length book.now) × ((k + n) * size ≤ length out.old) }
     ensures { out.new ≡ stored out.old (k * size) (slice_of book.now i n) }
 {
-    let end = (i + n) * record::SIZE;
-    let mut from = i * record::SIZE;
-    let mut to = k * record::SIZE;
-    while from < end {
-        out[to] = book[from];
-        from += 1;
-        to += 1;
-    }
+    out[k * SIZE..(k + n) * SIZE].copy_from_slice(&book[i * SIZE..(i + n) * SIZE]);
 }
 
 // Stores a number as two bytes, from place `at` on.
@@ -42,8 +29,7 @@ fn put_pair(out: &mut [u8], at: usize, n: usize)
     requires { (at + 2 ≤ length out.old) × (n < 65536) }
     ensures { out.new ≡ stored out.old at (n / 256 ∷ n % 256 ∷ []) }
 {
-    out[at] = (n / 256) as u8;
-    out[at + 1] = (n % 256) as u8;
+    out[at..at + 2].copy_from_slice(&(n as u16).to_be_bytes());
 }
 
 // Stores replacement m: its first old line and its old count.
@@ -55,30 +41,29 @@ fn put_replacement(replaced: &mut [u8], m: usize, line: usize, lines: usize)
     put_pair(replaced, m * REPLACEMENT + 2, lines);
 }
 
-// Stores a deny-overrides policy of two records, itself and one Deny rule, from record k on.
+// A deny-overrides policy of two records: itself and one Deny rule.
+const DENIAL: [u8; 2 * SIZE] = [
+    2, 1, 0, 2, 0, 0, 0, 0, 0, 0, 0, 0, 0, 0, 0, 0, 0, 0, 0, 0, //
+    3, 2, 0, 1, 0, 0, 0, 0, 0, 0, 0, 0, 0, 0, 0, 0, 0, 0, 0, 0,
+];
+
+// Stores that policy, from record k on.
 fn put_denial(out: &mut [u8], k: usize)
     requires { (k + 2) * size ≤ length out.old }
     ensures { out.new ≡ stored out.old (k * size) (deny_policy ++ deny_rule) }
 {
-    let mut two = [0u8; 2 * record::SIZE];
-    two[0] = 2;
-    two[1] = 1;
-    two[3] = 2;
-    two[record::SIZE] = 3;
-    two[record::SIZE + 1] = 2;
-    two[record::SIZE + 3] = 1;
-    copy(&two, 0, 2, out, k);
+    copy(&DENIAL, 0, 2, out, k);
 }
 
-// What mending stored: so many records, line 1 counted, and so many replacements.
+// A book mended: so many records, line 1 counted, and so many replacements.
 #[derive(Clone, Copy)]
-pub struct Stored {
+pub struct Counts {
     pub records: usize,
     pub replacements: usize,
 }
 
 // Stores what is mended of n records below line 1, a set of this category, into `out`, after the place of line 1, and the replacements into `replaced`.
-fn mend(book: &[u8], n: usize, category: usize, out: &mut [u8], replaced: &mut [u8]) -> Stored
+fn mend(book: &[u8], n: usize, category: usize, out: &mut [u8], replaced: &mut [u8]) -> Counts
     requires { (n * size ≤ length book.now) × (1 ≤ n) × (n ≤ most_records) × (n * size ≤ length out.old) × (n * 2 ≤ length replaced.old)
         × (n ≤ spoilt_at (parent 1 1 category category) 0 book.now 1 (n - 1)) }
     ensures { (out.new ≡ stored out.old size (mended_from book.now n category 1))
@@ -88,78 +73,76 @@ fn mend(book: &[u8], n: usize, category: usize, out: &mut [u8], replaced: &mut [
         × (result.records ≤ n)
         × (result.replacements * 2 ≤ n) }
 {
-    let mut i: usize = 1;
+    let set = spoilt::root(category);
     let mut k: usize = 1;
     let mut m: usize = 0;
-    while i < n {
-        let kind = placement::number(fields::kind_at(book, i));
+    for (i, lines) in Siblings::new(book, 1, n - 1) {
+        let kind = fields::kind_at(book, i);
         let c = record::byte(book, i, 4);
-        let lines = record::span(book, i);
-        let next = i + lines;
-        let bad = spoilt::first_bad(book, i + 1, next, 2, kind, category, c, 0);
-        if bad < next {
+        let bad = spoilt::first_bad(book, i + 1, i + lines, set.below(kind, c), 0);
+        if bad.is_some() {
             put_denial(out, k);
             put_replacement(replaced, m, i + 1, lines);
             k += 2;
             m += 1;
-            i = next;
             continue;
         }
         copy(book, i, lines, out, k);
         k += lines;
-        i = next;
     }
-    Stored {
+    Counts {
         records: k,
         replacements: m,
     }
 }
 
 // Mends the n records of a book of the right size.
-fn salvage_records(book: &[u8], n: usize, out: &mut [u8], replaced: &mut [u8]) -> Salvaged
+fn salvage_records(
+    book: &[u8],
+    n: usize,
+    out: &mut [u8],
+    replaced: &mut [u8],
+) -> Result<Counts, Refusal>
     requires { (1 ≤ n) × (n ≤ most_records) × (length book.now ≡ n * size) }
     ensures { (result ≡ answer_by (salvage_of book.now n) n (length out.old) (length replaced.old))
         × (out.new ≡ leaves result (records_in (salvage_of book.now n)) out.old)
         × (replaced.new ≡ leaves result (replaced_in (salvage_of book.now n)) replaced.old) }
 {
     if !spoilt::is_set(book, n) {
-        return Salvaged::Refused(record::spoilt(1));
+        return Err(Refusal::Spoilt(1));
     }
     let category = record::byte(book, 0, 4);
-    let line = spoilt::first_spoilt(book, n, category);
-    if line < n {
-        return Salvaged::Refused(record::spoilt(line + 1));
+    if let Some(line) = spoilt::first_spoilt(book, n, category) {
+        return Err(Refusal::Spoilt(line + 1));
     }
     if out.len() < book.len() {
-        return Salvaged::Refused(record::no_room());
+        return Err(Refusal::NoRoom);
     }
     if replaced.len() < n * 2 {
-        return Salvaged::Refused(record::no_room());
+        return Err(Refusal::NoRoom);
     }
     copy(book, 0, 1, out, 0);
     let done = mend(book, n, category, out, replaced);
     put_pair(out, 2, done.records);
-    Salvaged::Mended {
-        records: done.records,
-        replacements: done.replacements,
-    }
+    Ok(done)
 }
 
 // Mends a book's record bytes: the records go into `out`, with room for as many as the book has, and four bytes a replacement, its first old line and old count,
 // into `replaced`, with room for two bytes a record.
-pub fn salvage(book: &[u8], out: &mut [u8], replaced: &mut [u8]) -> Salvaged
+// Kept: the checks stand here and in `judge`, since must-fail edits of both (`spoilt_before_too_many`, `refuses_all`) name them.
+pub fn salvage(book: &[u8], out: &mut [u8], replaced: &mut [u8]) -> Result<Counts, Refusal>
     ensures { (result ≡ answer_of book.now (length out.old) (length replaced.old))
         × (out.new ≡ mended_out book.now result out.old)
         × (replaced.new ≡ replaced_out book.now result replaced.old) }
 {
-    if book.len() == 0 {
-        return Salvaged::Refused(record::no_record(1));
+    if book.is_empty() {
+        return Err(Refusal::NoRecord(Part::Book));
     }
-    if book.len() % record::SIZE != 0 {
-        return Salvaged::Refused(record::cut_short(1));
+    if book.len() % SIZE != 0 {
+        return Err(Refusal::CutShort(Part::Book));
     }
-    if record::MOST_RECORDS * record::SIZE < book.len() {
-        return Salvaged::Refused(record::too_many(1));
+    if record::MOST_RECORDS * SIZE < book.len() {
+        return Err(Refusal::TooMany(Part::Book));
     }
-    salvage_records(book, book.len() / record::SIZE, out, replaced)
+    salvage_records(book, book.len() / SIZE, out, replaced)
 }

@@ -2,20 +2,20 @@
 use Prim.Native.Nat.{ℕ, zero, suc}
 use mathlib.Core.Path.{◌≡◌, refl}
 use mathlib.Core.Bool.{Bool, true, false}
-use Rattle.meaning.specs.Logic.{or_of, target_and}
+use Rattle.meaning.specs.Logic.{target_and}
 use Rattle.meaning.specs.declared.Truth.{Truth}
-use Rattle.meaning.specs.declared.Truth.TheVariants.{True, False, Unknown}
+use Rattle.meaning.specs.declared.Truth.TheVariants.{True, False}
 use Rattle.meaning.specs.declared.Verdict.{Verdict}
 use Rattle.layout.specs.declared.Level.{Level}
 use Rattle.moves.specs.declared.Next.{Next}
 use Rattle.moves.specs.declared.Change.TheVariants.{Keep, Swap, Back}
 use Rattle.moves.specs.declared.Placing.TheVariants.{Rest}
 use Rattle.moves.specs.declared.Move.{Move}
-use Rattle.moves.specs.Core.{past, section_done, conjunction_done, match_done, settled_by, told_to, told, settles, value_in, tell, closed}
+use Rattle.moves.specs.Core.{past, section_done, settled_by, told_to, told, settles, value_in, tell, closed}
 use Rattle.layout.specs.Layout.{level_of, level_word}
 use Rattle.moves.specs.Moves.{moved, move_of}
 
--- targets: the result n, the truths v, u and w that came before
+-- targets: the result n, the truths v and u that came before
 module _ (n : Next) (v u : Truth) (l : Bool) (j x : ℕ) (t : Truth) (d : Verdict) where
   pub section_false : v ≡ False → u ≡ target_and t False → n ≡ section_done True l j x u d → n ≡ section_done v l j x t d
   section_false e f g = on l g
@@ -23,27 +23,6 @@ module _ (n : Next) (v u : Truth) (l : Bool) (j x : ℕ) (t : Truth) (d : Verdic
       on : (b : Bool) → n ≡ section_done True b j x u d → n ≡ section_done v b j x t d
       on true k = rw (e, ← f) k
       on false k = rw (e, ← f) k
-
-module _ (n : Next) (v : Truth) (c l : Bool) (i j x : ℕ) (t : Truth) (d : Verdict) where
-  pub conjunction_last : c ≡ true → n ≡ section_done v l j x t d → n ≡ conjunction_done v c l i j x t d
-  conjunction_last e f = rw e (on v f)
-    where
-      on : (a : Truth) → n ≡ section_done a l j x t d → n ≡ conjunction_done a true l i j x t d
-      on True k = k
-      on False k = k
-      on (Unknown s) k = k
-
-module _ (n : Next) (v w : Truth) (m c l : Bool) (i j x : ℕ) (o t : Truth) (d : Verdict) where
-  pub match_last : m ≡ true → w ≡ or_of o v → n ≡ conjunction_done w c l i j x t d → n ≡ match_done v m c l i j x o t d
-  match_last e f g = rw e (on v (rw f at g))
-    where
-      on : (a : Truth) → n ≡ conjunction_done (or_of o a) c l i j x t d → n ≡ match_done a true c l i j x o t d
-      on True k = k
-      on False k = k
-      on (Unknown s) k = k
-
-  pub match_false : v ≡ False → w ≡ or_of o False → n ≡ conjunction_done w c l i j x t d → n ≡ match_done v m c l i j x o t d
-  match_false e f g = rw e (rw f at g)
 
 -- conditions: the level t that was told, whether that settles it, where to go on, and its number
 module _ (r : Move) (n nest l : ℕ) (d : Verdict) (t : Level) (s : Bool) (on : Next) (w : ℕ)

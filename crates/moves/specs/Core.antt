@@ -1,13 +1,12 @@
 -- What a step does, from the entry, the two levels and the two frames on top, and the first number. It sees no obligation place. Assumes nothing.
-use Rattle.std.specs.Prelude.{ℕ, zero, suc, ◌+◌, ◌-◌, min, Bool, true, false, leb, ltb}
+use Rattle.std.specs.Prelude.{ℕ, zero, suc, ◌+◌, ◌-◌, min, Bool, true, false, leb, ltb, Err, Ok, Some}
+use Rattle.sums.specs.Worth.{Worth}
 use Rattle.record.specs.Choose.{if, both}
 use Rattle.value.specs.Value.{value_of, test_of}
 use Rattle.value.specs.declared.Function.{Function}
 use Rattle.sums.specs.Sums.{bytes_of, kind_of, result_of}
 use Rattle.sums.specs.declared.Operator.{Operator}
 use Rattle.sums.specs.declared.Status.TheVariants.{Processing}
-use Rattle.sums.specs.declared.Worth.{Worth}
-use Rattle.sums.specs.declared.Worth.TheVariants.{Is, Lost}
 use Rattle.meaning.specs.Logic.{and_of, or_of, not_of, target_and}
 use Rattle.meaning.specs.Numbers.{key_by}
 use Rattle.meaning.specs.Meaning.{Bags, truth_of, match_of, comparison_of, the_only, under, decision_of, effected, decision_in, is}
@@ -16,7 +15,6 @@ use Rattle.meaning.specs.declared.Truth.TheVariants.{True, False, Unknown}
 use Rattle.meaning.specs.declared.Effect.{Effect}
 use Rattle.meaning.specs.declared.Effect.TheVariants.{Permits, Denies}
 use Rattle.meaning.specs.declared.Decision.TheVariants as decision
-use Rattle.meaning.specs.declared.Cause.TheVariants.{By}
 use Rattle.meaning.specs.declared.Verdict.{Verdict}
 use Rattle.meaning.specs.declared.Verdict.TheVariants.{Permit, Deny, NotApplicable, Indeterminate}
 use Rattle.algorithm.specs.Fold.{settled}
@@ -146,17 +144,17 @@ closed n (suc (suc k)) l m r = out (past (settles m (value_in l)) n r) (back (to
 -- values of a comparison stand on the levels as their eight bytes; a value that is lost stands as 0, and the first number's `ands`, idle inside
 -- conditions, keeps Unknown with the first one's status from then on to the comparison
 abbrev pub word_of : Worth → ℕ
-word_of (Is v) = bytes_of v
-word_of (Lost s) = 0
+word_of (Ok v) = bytes_of v
+word_of (Err s) = 0
 
 abbrev pub mark_of : Worth → Truth
-mark_of (Is v) = True
-mark_of (Lost s) = Unknown s
+mark_of (Ok v) = True
+mark_of (Err s) = Unknown s
 
 abbrev pub since : Truth → Worth → Worth
 since True w = w
 since False w = w
-since (Unknown s) w = Lost s
+since (Unknown s) w = Err s
 
 -- an operator on two words; a comparison of two words
 abbrev pub worked : Operator → ℕ → ℕ → Worth
@@ -179,7 +177,7 @@ leaves h w = carried h (mark_of w) (back (word_of w))
 -- a piece, by the levels on top and below: a literal or attribute is put on top; an operator takes the one on top away and replaces the one below; so
 -- does the comparison, by a level of a condition that has its value, for `close` to tell
 abbrev pub pieced : Bags → Head → Piece → ℕ → ℕ → Out
-pieced g h (loads k n) l m = pushes h (since h.found.ands (Is (value_of k n)))
+pieced g h (loads k n) l m = pushes h (since h.found.ands (Ok (value_of k n)))
 pieced g h (asks key) l m = pushes h (since h.found.ands (the_only (g (key_by key))))
 pieced g h (works o) l m = leaves h (since h.found.ands (worked o m l))
 pieced g h (tests f k) l m = carried h True (back (level All (tested h.found.ands f k m l)))
@@ -205,7 +203,7 @@ abbrev pub one_applies : Frame → Tally
 one_applies h = record { acc = Pending; cause = h.tally.cause }
 
 abbrev pub two_apply : Tally
-two_apply = record { acc = Two; cause = By Processing }
+two_apply = record { acc = Two; cause = Some Processing }
 
 abbrev pub noted : Acc → Frame → ℕ → Verdict → Out
 noted Nobody h n r = out (clear 0 r) keep (below (put h (one_applies h))) Rest

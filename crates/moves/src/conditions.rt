@@ -11,9 +11,8 @@ pub fn start_of(op: Op) -> Truth
     ensures { result ≡ start_of op }
 {
     match op {
-        Op::All => Truth::True,
+        Op::All | Op::Not => Truth::True,
         Op::Any => Truth::False,
-        Op::Not => Truth::True,
     }
 }
 
@@ -30,29 +29,15 @@ fn fold_of(op: Op, a: Truth, v: Truth) -> Truth
 fn settled_by(op: Op, t: Truth) -> bool
     ensures { result ≡ settled_by op t }
 {
-    match op {
-        Op::All => match t {
-            Truth::True => false,
-            Truth::False => true,
-            Truth::Unknown(_) => false,
-        },
-        Op::Any => match t {
-            Truth::True => true,
-            Truth::False => false,
-            Truth::Unknown(_) => false,
-        },
-        Op::Not => false,
-    }
+    matches!((op, t), (Op::All, Truth::False) | (Op::Any, Truth::True))
 }
 
 fn told_to(l: Level, v: Truth) -> Level
     ensures { result ≡ told_to l v }
 {
-    let op = l.op;
-    let val = l.val;
     Level {
-        op,
-        val: fold_of(op, val, v),
+        val: fold_of(l.op, l.val, v),
+        ..l
     }
 }
 
@@ -70,9 +55,7 @@ pub fn tell_level(v: Truth, n: u64, nest: u64, l: u64, d: Verdict) -> Move
         return moving(first, Change::Keep, Change::Keep, Placing::Rest);
     }
     let t = told_to(level_of(l), v);
-    let op = t.op;
-    let val = t.val;
-    let on = past_if(settled_by(op, val), n, d);
+    let on = past_if(settled_by(t.op, t.val), n, d);
     moving(on, Change::Swap(level_word(t)), Change::Keep, Placing::Rest)
 }
 
@@ -82,15 +65,12 @@ pub fn close_level(n: u64, nest: u64, l: u64, m: u64, d: Verdict) -> Move
     if nest == 0 {
         return moving(cleared(0, d), Change::Keep, Change::Keep, Placing::Rest);
     }
-    let top = level_of(l);
-    let v = top.val;
+    let v = level_of(l).val;
     if nest == 1 {
         let first = cleared(0, in_register(v));
         return moving(first, Change::Back(m), Change::Keep, Placing::Rest);
     }
     let t = told_to(level_of(m), v);
-    let op = t.op;
-    let val = t.val;
-    let on = past_if(settled_by(op, val), n, d);
+    let on = past_if(settled_by(t.op, t.val), n, d);
     moving(on, Change::Back(level_word(t)), Change::Keep, Placing::Rest)
 }

@@ -69,18 +69,17 @@ pub fn cleared(n: u64, v: Verdict) -> Next
 pub fn past_if(b: bool, n: u64, v: Verdict) -> Next
     ensures { result ≡ past b n v }
 {
-    if b {
-        return cleared(n, v);
-    }
-    cleared(0, v)
+    cleared(if b { n } else { 0 }, v)
 }
 
 // The next entry, with all that was found.
 pub fn unchanged(h: Head) -> Next
     ensures { result ≡ onward h }
 {
-    let found = h.found;
-    Next { jump: 0, found }
+    Next {
+        jump: 0,
+        found: h.found,
+    }
 }
 
 pub fn moving(n: Next, levels: Change, frames: Change, placing: Placing) -> Move

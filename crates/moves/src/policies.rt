@@ -9,8 +9,8 @@ ghost use Rattle.moves.specs.Moves.{move_of};
 use crate::{Change, Move, Placing, cleared, moving};
 use algorithm::Acc;
 use algorithm::tally::Tally;
-use layout::{Frame, algorithm_by, frame_word};
-use meaning::{Cause, Effect, Verdict};
+use layout::{Coded, Frame, frame_word};
+use meaning::{Algorithm, Effect, Verdict};
 use sums::Status;
 
 // The frame of a policy or set with this algorithm that is entered where so many obligations stand.
@@ -18,11 +18,10 @@ pub fn entered(n: u64, permits: u64, denies: u64) -> u64
     requires { (permits < 1024) × (denies < 1024) }
     ensures { result ≡ frame_word (record { alg = algorithm_by n; tally = fresh (algorithm_by n); permits = permits; denies = denies }) }
 {
-    let alg = algorithm_by(n);
-    let tally = algorithm::tally::begin(alg);
+    let alg = Algorithm::by(n);
     frame_word(Frame {
         alg,
-        tally,
+        tally: algorithm::tally::begin(alg),
         permits,
         denies,
     })
@@ -32,23 +31,15 @@ pub fn ruled_by(e: Effect, v: Verdict) -> Verdict
     ensures { result ≡ ruled e v }
 {
     match v {
-        Verdict::Permit => meaning::effected(e),
-        Verdict::Deny => meaning::effected(e),
-        Verdict::NotApplicable => v,
-        Verdict::Indeterminate(_) => v,
+        Verdict::Permit | Verdict::Deny => meaning::effected(e),
+        Verdict::NotApplicable | Verdict::Indeterminate(_) => v,
     }
 }
 
 pub fn put_in(f: Frame, k: Tally) -> Frame
     ensures { result ≡ put f k }
 {
-    let alg = f.alg;
-    Frame {
-        alg,
-        tally: k,
-        permits: f.permits,
-        denies: f.denies,
-    }
+    Frame { tally: k, ..f }
 }
 
 pub fn conclude_by(v: Verdict, n: u64, p: u64, q: u64) -> Move
@@ -67,22 +58,12 @@ pub fn conclude_by(v: Verdict, n: u64, p: u64, q: u64) -> Move
             Change::Keep,
             Placing::FallPermit(p),
         ),
-        Verdict::NotApplicable => {
-            moving(
-                cleared(n, v),
-                Change::Keep,
-                Change::Keep,
-                Placing::FallBoth(p, q),
-            )
-        }
-        Verdict::Indeterminate(_) => {
-            moving(
-                cleared(n, v),
-                Change::Keep,
-                Change::Keep,
-                Placing::FallBoth(p, q),
-            )
-        }
+        Verdict::NotApplicable | Verdict::Indeterminate(_) => moving(
+            cleared(n, v),
+            Change::Keep,
+            Change::Keep,
+            Placing::FallBoth(p, q),
+        ),
     }
 }
 
@@ -92,7 +73,7 @@ fn too_many(b: Frame, n: u64) -> Move
 {
     let two = Tally {
         acc: Acc::Two,
-        cause: Cause::By(Status::Processing),
+        cause: Some(Status::Processing),
     };
     let w = frame_word(put_in(b, two));
     moving(
@@ -107,40 +88,25 @@ pub fn note_in(b: Frame, n: u64, v: Verdict) -> Move
     requires { (b.permits < 1024) × (b.denies < 1024) }
     ensures { result ≡ move_of (noted b.tally.acc b n v) }
 {
-    let k = b.tally;
-    let acc = k.acc;
-    let cause = k.cause;
-    match acc {
+    match b.tally.acc {
         Acc::Nobody => {
             let one = Tally {
                 acc: Acc::Pending,
-                cause,
+                ..b.tally
             };
             let w = frame_word(put_in(b, one));
             moving(cleared(0, v), Change::Keep, Change::Under(w), Placing::Rest)
         }
-        Acc::Pending => too_many(b, n),
-        Acc::Two => too_many(b, n),
-        Acc::One(_) => too_many(b, n),
-        Acc::Ranked(_) => too_many(b, n),
+        Acc::Pending | Acc::Two | Acc::One(_) | Acc::Ranked(_) => too_many(b, n),
     }
 }
 
 pub fn pushed_by(e: Effect, v: Verdict, n: u64) -> Placing
     ensures { result ≡ pushed e (is (decision_in v) (decision_of e)) n }
 {
-    match e {
-        Effect::Permits => match v {
-            Verdict::Permit => Placing::AddPermit(n),
-            Verdict::Deny => Placing::Rest,
-            Verdict::NotApplicable => Placing::Rest,
-            Verdict::Indeterminate(_) => Placing::Rest,
-        },
-        Effect::Denies => match v {
-            Verdict::Permit => Placing::Rest,
-            Verdict::Deny => Placing::AddDeny(n),
-            Verdict::NotApplicable => Placing::Rest,
-            Verdict::Indeterminate(_) => Placing::Rest,
-        },
+    match (e, v) {
+        (Effect::Permits, Verdict::Permit) => Placing::AddPermit(n),
+        (Effect::Denies, Verdict::Deny) => Placing::AddDeny(n),
+        _ => Placing::Rest,
     }
 }

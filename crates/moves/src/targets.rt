@@ -10,32 +10,32 @@ use meaning::{Truth, Verdict};
 // the ways to the next conjunction, to the next section, and out of the target.
 #[derive(Clone, Copy)]
 pub struct Stands {
-    pub m: bool,
-    pub c: bool,
-    pub l: bool,
-    pub i: u64,
-    pub j: u64,
-    pub x: u64,
+    pub ends_conjunction: bool,
+    pub ends_section: bool,
+    pub ends_target: bool,
+    pub conjunction: u64,
+    pub section: u64,
+    pub out: u64,
 }
 
-fn target_done(t: Truth, j: u64, x: u64, d: Verdict) -> Next
-    ensures { result ≡ target_done t j x d }
+fn target_done(t: Truth, s: Stands, d: Verdict) -> Next
+    ensures { result ≡ target_done t s.section s.out d }
 {
     match t {
-        Truth::True => cleared(j, d),
-        Truth::False => cleared(x, Verdict::NotApplicable),
-        Truth::Unknown(s) => cleared(x, Verdict::Indeterminate(s)),
+        Truth::True => cleared(s.section, d),
+        Truth::False => cleared(s.out, Verdict::NotApplicable),
+        Truth::Unknown(why) => cleared(s.out, Verdict::Indeterminate(why)),
     }
 }
 
-fn section_held(last: bool, j: u64, x: u64, t: Truth, d: Verdict) -> Next
-    ensures { result ≡ section_done (Truth.True) last j x t d }
+fn section_held(s: Stands, t: Truth, d: Verdict) -> Next
+    ensures { result ≡ section_done (Truth.True) s.ends_target s.section s.out t d }
 {
-    if last {
-        return target_done(t, j, x, d);
+    if s.ends_target {
+        return target_done(t, s, d);
     }
     Next {
-        jump: j,
+        jump: s.section,
         found: Found {
             reg: d,
             ands: Truth::True,
@@ -45,35 +45,22 @@ fn section_held(last: bool, j: u64, x: u64, t: Truth, d: Verdict) -> Next
     }
 }
 
-fn section_done(v: Truth, last: bool, j: u64, x: u64, t: Truth, d: Verdict) -> Next
-    ensures { result ≡ section_done v last j x t d }
+fn section_done(v: Truth, s: Stands, t: Truth, d: Verdict) -> Next
+    ensures { result ≡ section_done v s.ends_target s.section s.out t d }
 {
     match v {
-        Truth::True => section_held(last, j, x, t, d),
-        Truth::False => section_held(last, j, x, meaning::target3(t, Truth::False), d),
-        Truth::Unknown(_) => target_done(meaning::target3(t, v), j, x, d),
+        Truth::True => section_held(s, t, d),
+        Truth::False => section_held(s, meaning::target3(t, Truth::False), d),
+        Truth::Unknown(_) => target_done(meaning::target3(t, v), s, d),
     }
 }
 
 fn conjunction_done(v: Truth, s: Stands, t: Truth, d: Verdict) -> Next
-    ensures { result ≡ conjunction_done v s.c s.l s.i s.j s.x t d }
+    ensures { result ≡ conjunction_done v s.ends_section s.ends_target s.conjunction s.section s.out t d }
 {
-    if s.c {
-        return section_done(v, s.l, s.j, s.x, t, d);
-    }
     match v {
-        Truth::True => section_done(Truth::True, s.l, s.j, s.x, t, d),
-        Truth::False => Next {
-            jump: s.i,
-            found: Found {
-                reg: d,
-                ands: Truth::True,
-                ors: Truth::False,
-                sections: t,
-            },
-        },
-        Truth::Unknown(_) => Next {
-            jump: s.i,
+        Truth::False | Truth::Unknown(_) if !s.ends_section => Next {
+            jump: s.conjunction,
             found: Found {
                 reg: d,
                 ands: Truth::True,
@@ -81,34 +68,18 @@ fn conjunction_done(v: Truth, s: Stands, t: Truth, d: Verdict) -> Next
                 sections: t,
             },
         },
+        _ => section_done(v, s, t, d),
     }
 }
 
-pub fn match_done(v: Truth, s: Stands, o: Truth, t: Truth, d: Verdict) -> Next
-    ensures { result ≡ match_done v s.m s.c s.l s.i s.j s.x o t d }
+pub fn match_done(v: Truth, s: Stands, found: Found) -> Next
+    ensures { result ≡ match_done v s.ends_conjunction s.ends_section s.ends_target s.conjunction s.section s.out found.ors found.sections found.reg }
 {
-    if s.m {
-        return conjunction_done(meaning::or3(o, v), s, t, d);
-    }
     match v {
-        Truth::False => conjunction_done(meaning::or3(o, Truth::False), s, t, d),
-        Truth::True => Next {
+        Truth::True | Truth::Unknown(_) if !s.ends_conjunction => Next {
             jump: 0,
-            found: Found {
-                reg: d,
-                ands: Truth::True,
-                ors: o,
-                sections: t,
-            },
+            found: Found { ands: v, ..found },
         },
-        Truth::Unknown(_) => Next {
-            jump: 0,
-            found: Found {
-                reg: d,
-                ands: v,
-                ors: o,
-                sections: t,
-            },
-        },
+        _ => conjunction_done(meaning::or3(found.ors, v), s, found.sections, found.reg),
     }
 }

@@ -7,7 +7,7 @@ use Prim.Native.Nat.{ℕ, ◌+◌, ◌≤◌, ◌<◌, max}
 use native.Mathlib.Nat.{eq-or-lt_of_le}
 use native.Mathlib.Omega.{arith}
 use lib.Dec.{ltb, leb, eqb}
-use borrow.Author.Tests.{lt-ltb, ltb-false, eq-eqb, ne_eqb, leb-true, leb-false}
+use borrow.Author.Tests.{lt-ltb, ltb-false, ne_eqb, leb-true, leb-false}
 use Rattle.record.specs.Choose.{if, both}
 use Rattle.record.specs.Bytes.{byte_of, span_of}
 use Rattle.record.proofs.Choose.{both_false}
@@ -50,47 +50,54 @@ module _ (b : List ℕ) {i j r : ℕ} (h : i < j) (l : j < end_of b i) (w : Reac
             (λ k a z. by (ltb j (end_of b k)) (λ c. absurd (omega (arith, parent_ge b j k z c))) (λ c. ltb-false j (end_of b k) c)),
       )) ∙ sym t))
 
-  pub child_more : {m d : ℕ} → m ≡ count_below (is_child b i) j → d ≡ if (leb r j) 1 0 → m + d ≡ count_below (is_child b i) (j + 1)
-  child_more em ed = rw (count_more (is_child b i) j, by_reach, ← em, ← ed)
-
-  pub operand_more : (t : ℕ) {m d v : ℕ} {u : Bool} → m ≡ count_below (is_operand b i t) j → v ≡ value_type b j → u ≡ both (leb r j) (eqb v t)
-      → d ≡ if u 1 0 → m + d ≡ count_below (is_operand b i t) (j + 1)
-  unfolding is_operand
-  operand_more t em ev eu ed = rw (count_more (is_operand b i t) j, by_reach, ← ev, ← eu, ← em, ← ed)
-
 -- none is counted before the first
-pub child_none : (b : List ℕ) (i : ℕ) → 0 ≡ count_below (is_child b i) (i + 1)
+child_none : (b : List ℕ) (i : ℕ) → 0 ≡ count_below (is_child b i) (i + 1)
 child_none b i = sym (count_before b i (is_child b i) (λ j e. e))
 
-pub operand_none : (b : List ℕ) (i t : ℕ) → 0 ≡ count_below (is_operand b i t) (i + 1)
+operand_none : (b : List ℕ) (i t : ℕ) → 0 ≡ count_below (is_operand b i t) (i + 1)
 operand_none b i t = sym (count_before b i (is_operand b i t) (λ j e. operand_only b i t j e))
 
--- what the counts say
-module _ (b : List ℕ) (i t : ℕ) {end j m : ℕ} (ee : end ≡ end_of b i) (le : j ≤ end) (ge : end ≤ j) (em : m ≡ count_below (is_child b i) j) where
-  at_end : j ≡ end_of b i
-  at_end = omega arith
+-- what the loop has seen of the records after i and before j: how far they reach, and how many of them are children of i, and operands of type t
+pub record Seen (b : List ℕ) (i t j r m n : ℕ) : Type 0 where
+  pub reach : Reach b i j r
+  pub children_below : m < j
+  pub operands_below : n < j
+  pub children : m ≡ count_below (is_child b i) j
+  pub operands : n ≡ count_below (is_operand b i t) j
 
-  pub not_two : (m ≡ 2 → ⊥) → false ≡ two_values b i t
-  unfolding two_values
-  not_two n = rw (← at_end, ← em, ne_eqb m 2 n)
+pub seen_none : (b : List ℕ) (i t : ℕ) → Seen b i t (i + 1) (i + 1) 0 0
+seen_none b i t = record {
+  reach = reach_none b i;
+  children_below = omega arith;
+  operands_below = omega arith;
+  children = child_none b i;
+  operands = operand_none b i t;
+}
 
-  pub two_of_lem : m ≡ 2 → {n : ℕ} → n ≡ count_below (is_operand b i t) j → eqb n 2 ≡ two_values b i t
-  unfolding two_values
-  two_of_lem e en = rw (← at_end, ← em, eq-eqb m 2 e, ← en)
+bit : (u : Bool) → if u 1 0 ≤ 1
+bit true = omega arith
+bit false = omega arith
 
--- a comparison of two values, a law for each return
-abbrev Compares : List ℕ → ℕ → Bool
-Compares b i = operands_ok Weighing (byte_of b i 1) (value_type b (i + 1)) (two_values b i)
+pub seen_more : (b : List ℕ) (i t : ℕ) {j r m n x y s z : ℕ} {u : Bool} → i < j → j < end_of b i → Seen b i t j r m n → x ≡ if (leb r j) 1 0
+    → u ≡ both (leb r j) (eqb (value_type b j) t) → y ≡ if u 1 0 → s ≡ span_of b j → z ≡ max r (j + s) → Seen b i t (j + 1) z (m + x) (n + y)
+unfolding is_operand
+seen_more b i t {j} {r} {u = u} h l w ex eu ey es ez =
+    let child : is_child b i j ≡ leb r j = by_reach b h l w.reach in
+    record {
+      reach = reach_more b h w.reach es ez;
+      children_below = omega (arith, w.children_below, bit (leb r j));
+      operands_below = omega (arith, w.operands_below, bit u);
+      children = rw (count_more (is_child b i) j, child, ← w.children, ← ex);
+      operands = rw (count_more (is_operand b i t) j, child, ← eu, ← w.operands, ← ey);
+    }
 
-pub none_below : (b : List ℕ) (i : ℕ) {end : ℕ} → end ≡ end_of b i → end ≡ i + 1 → false ≡ Compares b i
-none_below b i ee e =
+-- a comparison of two values where nothing is below it
+two_none : (b : List ℕ) (i t : ℕ) → end_of b i ≡ i + 1 → false ≡ two_values b i t
+unfolding two_values
+two_none b i t e = rw (e, ← child_none b i)
+
+pub none_below : (b : List ℕ) (i : ℕ) → end_of b i ≡ i + 1 → false ≡ operands_ok Weighing (byte_of b i 1) (value_type b (i + 1)) (two_values b i)
+none_below b i e =
     let t : ℕ = value_type b (i + 1) in
     let u : Bool = comparable_by t (byte_of b i 1) in
-    sym (both_false u) ∙ ap (both u) (not_two b i t ee (omega arith) (omega arith) (child_none b i) (λ x. absurd (omega arith)))
-
-module _ (b : List ℕ) (i : ℕ) {t c : ℕ} {u : Bool} (et : t ≡ value_type b (i + 1)) (ec : c ≡ byte_of b i 1) (eu : u ≡ comparable_by t c) where
-  pub not_comparable : u ≡ false → false ≡ Compares b i
-  not_comparable q = rw (← et, ← ec, ← eu, q)
-
-  pub compares_both : u ≡ true → {v : Bool} → v ≡ two_values b i t → v ≡ Compares b i
-  compares_both q ev = rw (← et, ← ec, ← eu, q) ev
+    sym (both_false u) ∙ ap (both u) (two_none b i t e)

@@ -1,4 +1,5 @@
 -- The examples of specs/Differs.antt, computed. Assumes nothing.
+use Rattle.std.specs.Prelude.{Ok}
 use Prim.Native.Nat.{ℕ, ◌+◌, ◌*◌, ◌^◌}
 use mathlib.Core.Path.{◌≡◌, refl}
 use mathlib.Core.Bool.{true}
@@ -21,10 +22,8 @@ use Rattle.meaning.specs.declared.Verdict.{Verdict}
 use Rattle.operands.specs.Parent.{end_of, parent_of}
 use Rattle.operands.specs.Operands.{operands_at}
 use Rattle.placement.specs.Place.{elder_of, depth_of, holds_conditions, single_of, rank_at, elder_rank, stands_ok, child_rule, child_broken, top_ok, broken_at, place_ok}
-use Rattle.judge.specs.Judge.{judge_records, judge_of}
+use Rattle.judge.specs.Judge.{judge_records, judge_of, accepted_with}
 use Rattle.judge.specs.Request.{judge_entries, judge_request_of}
-use Rattle.judge.specs.declared.Judged.TheVariants as book
-use Rattle.judge.specs.declared.JudgedRequest.TheVariants as request
 use Rattle.structure.specs.Subtrees.{slice_of}
 use Rattle.order.specs.Reordered.{swap}
 use Rattle.order.specs.Books.{movable, end, next, together, as_is, reorders}
@@ -38,7 +37,7 @@ exchange b i =
 
 -- a book whose children at record i and after it are exchanged, and what is computed of it
 differs : {kind : ℕ} {a : Algorithm} {v w : Verdict} {os ps : List ℕ} (b q : List ℕ) (i n o m : ℕ)
-    → judge_of b ≡ book.Accepted n o → judge_request_of q ≡ request.Accepted m
+    → judge_of b ≡ accepted_with n o → judge_request_of q ≡ Ok m
     → (byte_of b 0 0 ≡ kind) × (algorithm_of (book_of b) ≡ a)
     → (parent_of b i ≡ 0) × (movable b i ≡ true) × (parent_of b (i + span_of b i) ≡ 0) × (movable b (i + span_of b i) ≡ true)
     → (decides (bags_of q) (book_of b) ≡ v) × (obliges (bags_of q) (book_of b) ≡ os)

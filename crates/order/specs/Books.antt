@@ -8,8 +8,7 @@ use Rattle.operands.specs.Parent.{parent_of}
 use Rattle.meaning.specs.Policy.{Tree}
 use Rattle.meaning.specs.Meaning.{obliges}
 use Rattle.meaning.specs.Reading.{tree_at, trees_in, book_of, bags_of}
-use Rattle.judge.specs.Judge.{judge_of}
-use Rattle.judge.specs.declared.Judged.TheVariants.{Accepted}
+use Rattle.judge.specs.Judge.{judge_of, accepted_with}
 use Rattle.structure.specs.Subtrees.{slice_of}
 use Rattle.order.specs.Reordered.{Reordered}
 use Rattle.order.specs.Rearranged.{Rearranged}
@@ -57,26 +56,26 @@ pub data RearrangedBook (may : Tree → Bool) : List ℕ → List ℕ → Type 0
 -- an accepted book, rearranged, is accepted, with as many records and obligations, whatever its algorithms
 abbrev pub RearrangedIsAccepted : Type 0
 RearrangedIsAccepted =
-    (may : Tree → Bool) (b c : List ℕ) (n o : ℕ) → RearrangedBook may b c → judge_of b ≡ Accepted n o → judge_of c ≡ Accepted n o
+    (may : Tree → Bool) (b c : List ℕ) (n o : ℕ) → RearrangedBook may b c → judge_of b ≡ accepted_with n o → judge_of c ≡ accepted_with n o
 
 -- and its tree is that of the book, rearranged
 abbrev pub RearrangedIsRead : Type 0
 RearrangedIsRead =
-    (may : Tree → Bool) (b c : List ℕ) (n o : ℕ) → RearrangedBook may b c → judge_of b ≡ Accepted n o → Rearranged may (book_of b) (book_of c)
+    (may : Tree → Bool) (b c : List ℕ) (n o : ℕ) → RearrangedBook may b c → judge_of b ≡ accepted_with n o → Rearranged may (book_of b) (book_of c)
 
 -- So of two such books, for every request: the decision stays; the whole answer; the numbers of the obligations. What may be reordered for each is in
 -- specs/Stays.antt.
 abbrev pub BookKeepsDecision : Type 0
 BookKeepsDecision =
-    (b c q : List ℕ) (n o : ℕ) → judge_of b ≡ Accepted n o → RearrangedBook keeps_decision b c
+    (b c q : List ℕ) (n o : ℕ) → judge_of b ≡ accepted_with n o → RearrangedBook keeps_decision b c
     → decision (bags_of q) (book_of b) ≡ decision (bags_of q) (book_of c)
 
 abbrev pub BookKeepsAnswer : Type 0
 BookKeepsAnswer =
-    (b c q : List ℕ) (n o : ℕ) → judge_of b ≡ Accepted n o → RearrangedBook keeps_answer b c
+    (b c q : List ℕ) (n o : ℕ) → judge_of b ≡ accepted_with n o → RearrangedBook keeps_answer b c
     → (decision (bags_of q) (book_of b) ≡ decision (bags_of q) (book_of c)) × (obliges (bags_of q) (book_of b) ≡ obliges (bags_of q) (book_of c))
 
 abbrev pub BookKeepsNumbers : Type 0
 BookKeepsNumbers =
-    (b c q : List ℕ) (n o : ℕ) → judge_of b ≡ Accepted n o → RearrangedBook (keeps_numbers (bags_of q) (decision (bags_of q) (book_of b))) b c
+    (b c q : List ℕ) (n o : ℕ) → judge_of b ≡ accepted_with n o → RearrangedBook (keeps_numbers (bags_of q) (decision (bags_of q) (book_of b))) b c
     → (decision (bags_of q) (book_of b) ≡ decision (bags_of q) (book_of c)) × Reordered ℕ (obliges (bags_of q) (book_of b)) (obliges (bags_of q) (book_of c))

@@ -1,6 +1,6 @@
 -- Where reordering does not keep, by example: two accepted books, one the other with two neighbouring children of line 1 exchanged, that answer a request
 -- differently. `proofs/Differs.antt` computes them. Assumes nothing.
-use Rattle.std.specs.Prelude.{ℕ, ◌≡◌, Bool, true, List, [], ◌∷◌}
+use Rattle.std.specs.Prelude.{ℕ, ◌≡◌, Bool, true, List, [], ◌∷◌, Ok}
 use Rattle.record.specs.Bytes.{byte_of}
 use Rattle.sums.specs.declared.Status.TheVariants.{Missing, Processing}
 use Rattle.meaning.specs.Policy.{Tree}
@@ -10,10 +10,8 @@ use Rattle.meaning.specs.declared.Algorithm.{Algorithm}
 use Rattle.meaning.specs.declared.Algorithm.TheVariants.{First, PoliciesDeny, PoliciesPermit}
 use Rattle.meaning.specs.declared.Verdict.{Verdict}
 use Rattle.meaning.specs.declared.Verdict.TheVariants.{Permit, Deny, Indeterminate}
-use Rattle.judge.specs.Judge.{judge_of}
+use Rattle.judge.specs.Judge.{judge_of, accepted_with}
 use Rattle.judge.specs.Request.{judge_request_of}
-use Rattle.judge.specs.declared.Judged.TheVariants as book
-use Rattle.judge.specs.declared.JudgedRequest.TheVariants as request
 use Rattle.order.specs.Books.{RearrangedBook}
 
 -- children may be reordered whatever the algorithm
@@ -28,8 +26,8 @@ pub record Differs (kind : ℕ) (a : Algorithm) (v : Verdict) (os : List ℕ) (w
   pub records : ℕ
   pub obligations : ℕ
   pub entries : ℕ
-  pub accepted : judge_of old ≡ book.Accepted records obligations
-  pub request : judge_request_of asked ≡ request.Accepted entries
+  pub accepted : judge_of old ≡ accepted_with records obligations
+  pub request : judge_request_of asked ≡ Ok entries
   pub line_one_lem : (byte_of old 0 0 ≡ kind) × (algorithm_of (book_of old) ≡ a)
   pub rearranged : RearrangedBook any_party old new
   pub old_answer : (decides (bags_of asked) (book_of old) ≡ v) × (obliges (bags_of asked) (book_of old) ≡ os)

@@ -1,10 +1,9 @@
 -- What the code of a comparison's pieces passes on is what `moves`' specs/Core.antt says. Assumes nothing.
+use Rattle.std.specs.Prelude.{Err, Ok}
 use Prim.Native.Nat.{ℕ}
 use mathlib.Core.Path.{◌≡◌, refl, ap, ◌∙◌}
+use Rattle.sums.specs.Worth.{Word, Worth}
 use Rattle.sums.specs.Sums.{in_bytes}
-use Rattle.sums.specs.declared.Worth.{Worth}
-use Rattle.sums.specs.declared.Worth.TheVariants.{Is, Lost}
-use Rattle.sums.specs.declared.Word.{Word}
 use Rattle.meaning.specs.declared.Truth.{Truth}
 use Rattle.meaning.specs.declared.Truth.TheVariants.{True, False, Unknown}
 use Rattle.layout.specs.declared.Head.{Head}
@@ -25,12 +24,12 @@ abbrev going : Head → Word → Next
 going h x = next 0 h.found.reg (mark_in x) h.found.ors h.found.sections
 
 push_is : (h : Head) (w : Worth) → moved (going h (in_bytes w)) (Push (word_in (in_bytes w))) Keep Rest ≡ move_of (pushes h w)
-push_is h (Is v) = refl
-push_is h (Lost s) = refl
+push_is h (Ok v) = refl
+push_is h (Err s) = refl
 
 leave_is : (h : Head) (w : Worth) → moved (going h (in_bytes w)) (Back (word_in (in_bytes w))) Keep Rest ≡ move_of (leaves h w)
-leave_is h (Is v) = refl
-leave_is h (Lost s) = refl
+leave_is h (Ok v) = refl
+leave_is h (Err s) = refl
 
 keeps : (h : Head) (w : Worth) {given x : Word} → given ≡ in_bytes w → x ≡ since_word h.found.ands given → x ≡ in_bytes (since h.found.ands w)
 keeps h w e k = k ∙ ap (since_word h.found.ands) e ∙ since_is h.found.ands w

@@ -4,7 +4,7 @@
 ghost use Rattle.std.specs.Prelude.{◌≡◌};
 ghost use Rattle.value.specs.Value.{value_of, test_of};
 ghost use Rattle.sums.specs.Sums.{in_bytes};
-ghost use Rattle.sums.specs.declared.Worth.{Worth};
+ghost use Rattle.sums.specs.Worth.{Worth};
 ghost use Rattle.meaning.specs.Meaning.{truth_of};
 ghost use Rattle.layout.specs.declared.Op.TheVariants.{All};
 ghost use Rattle.moves.specs.Core.{back, next, level, since, worked, tested, carried, pushes, leaves};
@@ -22,44 +22,34 @@ fn since_word(ands: Truth, w: Word) -> Word
     ensures { result ≡ since_word ands w }
 {
     match ands {
-        Truth::True => w,
-        Truth::False => w,
-        Truth::Unknown(s) => Word::Nothing(s),
+        Truth::True | Truth::False => w,
+        Truth::Unknown(s) => Err(s),
     }
 }
 
 fn word_in(w: Word) -> u64
     ensures { result ≡ word_in w }
 {
-    match w {
-        Word::Holds(n) => n,
-        Word::Nothing(_) => 0,
-    }
+    w.unwrap_or(0)
 }
 
 fn mark_in(w: Word) -> Truth
     ensures { result ≡ mark_in w }
 {
     match w {
-        Word::Holds(_) => Truth::True,
-        Word::Nothing(s) => Truth::Unknown(s),
+        Ok(_) => Truth::True,
+        Err(s) => Truth::Unknown(s),
     }
 }
 
 fn marked(h: Head, mark: Truth) -> Next
     ensures { result ≡ next 0 h.found.reg mark h.found.ors h.found.sections }
 {
-    let found = h.found;
-    let reg = found.reg;
-    let ors = found.ors;
-    let sections = found.sections;
     Next {
         jump: 0,
         found: Found {
-            reg,
             ands: mark,
-            ors,
-            sections,
+            ..h.found
         },
     }
 }
@@ -68,9 +58,7 @@ fn marked(h: Head, mark: Truth) -> Next
 pub fn put_word(h: Head, given: Word) -> Move
     ensures { (w : Worth) → given ≡ in_bytes w → result ≡ move_of (pushes h (since h.found.ands w)) }
 {
-    let found = h.found;
-    let ands = found.ands;
-    let w = since_word(ands, given);
+    let w = since_word(h.found.ands, given);
     let on = marked(h, mark_in(w));
     moving(on, Change::Push(word_in(w)), Change::Keep, Placing::Rest)
 }
@@ -79,9 +67,7 @@ pub fn put_word(h: Head, given: Word) -> Move
 pub fn work_words(h: Head, op: Operator, l: u64, m: u64) -> Move
     ensures { result ≡ move_of (leaves h (since h.found.ands (worked op m l))) }
 {
-    let found = h.found;
-    let ands = found.ands;
-    let w = since_word(ands, sums::work(op, m, l));
+    let w = since_word(h.found.ands, sums::work(op, m, l));
     let on = marked(h, mark_in(w));
     moving(on, Change::Back(word_in(w)), Change::Keep, Placing::Rest)
 }
@@ -96,22 +82,20 @@ fn tested_by(ands: Truth, f: Function, kind: usize, x: u64, y: u64) -> Truth
     ensures { result ≡ tested ands f kind x y }
 {
     match ands {
-        Truth::True => compared(f, kind, x, y),
-        Truth::False => compared(f, kind, x, y),
+        Truth::True | Truth::False => compared(f, kind, x, y),
         Truth::Unknown(_) => ands,
     }
 }
 
 // A condition that has the comparison's value takes the place of the two values, for `close` to tell.
+#[tactic(auto, unfolding(moves::specs::Core::level))]
 pub fn test_words(h: Head, f: Function, kind: usize, l: u64, m: u64) -> Move
     ensures { result ≡ move_of (carried h (Truth.True) (back (level All (tested h.found.ands f kind m l)))) }
 {
-    let found = h.found;
-    let ands = found.ands;
     let on = marked(h, Truth::True);
     let top = Level {
         op: Op::All,
-        val: tested_by(ands, f, kind, m, l),
+        val: tested_by(h.found.ands, f, kind, m, l),
     };
     moving(
         on,

@@ -8,20 +8,22 @@ use native.Mathlib.Nat.{eq-or-lt_of_le}
 use native.Mathlib.Omega.{arith}
 use lib.Dec.{ltb, leb, eqb}
 use lib.ListN.{length}
-use borrow.Author.Tests.{lt-ltb, le-ltb, ltb-true, ltb-false, eq-eqb, ne_eqb, eqb-true, leb-true, lt-leb, le-leb}
+use borrow.Author.Tests.{lt-ltb, le-ltb, ltb-true, ltb-false, eq-eqb, ne_eqb, eqb-true, leb-true, le-leb}
 use Rattle.record.specs.Choose.{if, both, either, among}
 use Rattle.record.specs.Bytes.{size, byte_of, span_of}
 use Rattle.record.proofs.Choose.{both_parts}
 use Rattle.fields.specs.First.{last_below, count_below, first_from}
 use Rattle.fields.specs.Fields.{kind_at, field_ok}
 use Rattle.fields.specs.declared.Kind.{Kind}
-use Rattle.fields.proofs.First.{by, last_is, last_ge, count_skip, count_one, count_same, first_none, first_here, first_next, first_le, first_past, first_in, first_all}
+use Rattle.fields.proofs.First.{by, last_is, last_ge, count_skip, count_one, count_same, first_here, first_next, first_le, first_past, first_in, first_all}
 use Rattle.fields.proofs.Spans.{span_pos}
 use Rattle.operands.specs.Parent.{end_of, covers, parent_of}
 use Rattle.operands.specs.Operands.{operands_at}
 use Rattle.placement.specs.Place.{most_depth, elder_of, depth_of, kind_number, takes_of, rise_of, under_ok, rank_of, rank_at, elder_rank, stands_ok, stands_at, child_rule, child_broken, top_ok, broken_at, place_ok}
 use Rattle.operands.proofs.Parent.{span_end, end_after, parent_ge, parent_of_lem, parent_is_innermost}
-use Rattle.placement.specs.Walk.{Walk, Finds}
+use Rattle.placement.specs.Walk.{Walk, Finds, FirstBroken}
+use Rattle.placement.specs.declared.Broken.{Broken}
+use Rattle.std.specs.Prelude.{Option, None, Some}
 
 apart : (a c : ℕ) → (a ≡ c) ⊎ ((a < c) ⊎ (c < a))
 apart a c = by (ltb a c) (λ t. inr (inl (ltb-true a c t)))
@@ -77,20 +79,11 @@ module _ (b : List ℕ) {p i e d pn gc pc er : ℕ} (w : Walk b p i e d pn gc pc
       rw (ne_eqb i 0 (λ x. omega (arith, w.after)), parent_is, elder_is, depth_is, ← w.ends, ← w.number, ← w.grand, ← w.rank, ← ek, ← ec, ← ee, ← et)
       (eb ∙ rule_past end e (d + 1) eu)
 
--- whether a child may stand there, a law for each return
-module _ (p : ℕ) (k : Kind) (c e g : ℕ) {t : Bool} (et : t ≡ takes_of p k) where
-  pub not_taken : t ≡ false → false ≡ stands_ok p k c e g
+-- a child that its parent takes, and that comes after the child before it
+module _ (p : ℕ) (k : Kind) (c e g : ℕ) {t : Bool} (et : t ≡ takes_of p k) (q : t ≡ true) {r s : ℕ} (er : r ≡ rank_of k c) (es : s ≡ rise_of p k) where
+  pub all_but : e + s ≤ r → {u : Bool} → u ≡ under_ok k g c → u ≡ stands_ok p k c e g
   unfolding stands_ok
-  not_taken q = rw (← et, q)
-
-  module _ (q : t ≡ true) {r s : ℕ} (er : r ≡ rank_of k c) (es : s ≡ rise_of p k) where
-    pub not_after : r < e + s → false ≡ stands_ok p k c e g
-    unfolding stands_ok
-    not_after x = rw (← et, q, ← er, ← es, lt-leb (e + s) r x)
-
-    pub all_but : e + s ≤ r → {u : Bool} → u ≡ under_ok k g c → u ≡ stands_ok p k c e g
-    unfolding stands_ok
-    all_but x eu = rw (← et, q, ← er, ← es, le-leb (e + s) r x) eu
+  all_but x eu = rw (← et, q, ← er, ← es, le-leb (e + s) r x) eu
 
 tests : (s t u : Bool) → ◌≡◌ {A = ℕ} (if s (if t (if u 0 12) 11) 10) 0 → (s ≡ true) × (t ≡ true) × (u ≡ true)
 tests true true true e = (refl, refl, refl)
@@ -171,10 +164,10 @@ module _ (b : List ℕ) {p i e d pn gc pc er : ℕ} (w : Walk b p i e d pn gc pc
     its_rule : r ≡ broken_at b i
     its_rule = rule_is b w l ek ec ends_after.1 et eu eb
 
-    pub stop_here : (r ≡ 0 → ⊥) → Finds b i (e - i) i r
+    pub stop_here : 0 < r → Finds b i (e - i) i r
     unfolding place_ok
     stop_here n =
-        record { place = sym (first_here (place_ok b) i (e - i) (omega arith) (ne_eqb (broken_at b i) 0 (λ y. n (its_rule ∙ y)))); which = λ z. its_rule; none = λ z. absurd (omega arith) }
+        record { place = sym (first_here (place_ok b) i (e - i) (omega arith) (ne_eqb (broken_at b i) 0 (λ y. omega (arith, its_rule, n)))); which = λ z. its_rule; none = λ z. absurd (omega arith) }
 
     pub passed : r ≡ 0 → Passed b p i e d pn gc pc er k c (i + s)
     unfolding place_ok
@@ -274,31 +267,23 @@ module _ (b : List ℕ) {p i e d pn gc pc er : ℕ} {k : Kind} {c end : ℕ} (h 
           ev ∙ first_next (place_ok b) i (e - i) (e - (i + 1)) (omega arith) h.ok ∙ (rw (m, n) at s)
 
 -- line 1
+pub top_broken : (b : List ℕ) {n : ℕ} → 0 < n → false ≡ top_ok b → FirstBroken b 0 n (Some (record { at = 0; rule = 9 }))
+unfolding place_ok broken_at
+top_broken b {n} h x =
+    (record { place = sym (first_here (place_ok b) 0 n h (rw (← x))); which = λ z. rw (← x); none = λ z. absurd (omega arith) }, omega arith)
+
+pub top_parts : (b : List ℕ) {n : ℕ} → length b ≡ n * size → true ≡ top_ok b → (among 1 2 (kind_number (kind_at b 0)) ≡ true) × (span_of b 0 ≡ n)
+unfolding top_ok
+top_parts b el x =
+    let w = both_parts (among 1 2 (kind_number (kind_at b 0))) (eqb (span_of b 0) (length b / size)) (sym x) in
+    (w.0, eqb-true (span_of b 0) (length b / size) w.1 ∙ omega arith)
+
 module _ (b : List ℕ) {n m : ℕ} {k : Kind} {u : Bool} (h : 0 < n) (el : length b ≡ n * size) (ek : k ≡ kind_at b 0) (em : m ≡ kind_number k) (eu : u ≡ among 1 2 m) where
-  top_not : top_ok b ≡ false → Finds b 0 n 0 9
-  unfolding place_ok broken_at
-  top_not x = record { place = sym (first_here (place_ok b) 0 n h (rw x)); which = λ z. rw x; none = λ z. absurd (omega arith) }
-
-  pub top_kind : u ≡ false → Finds b 0 n 0 9
-  unfolding top_ok
-  top_kind t = top_not (rw (← ek, ← em, ← eu, t))
-
   module _ (t : u ≡ true) {s : ℕ} (es : s ≡ span_of b 0) where
-    pub top_span : (s ≡ n → ⊥) → Finds b 0 n 0 9
-    unfolding top_ok
-    top_span x = top_not (rw (← ek, ← em, ← eu, t, ← es) (ne_eqb s (length b / size) (λ y. x (omega arith))))
-
     module _ (x : s ≡ n) where
       pub top_ok_lem : place_ok b 0 ≡ true
       unfolding place_ok broken_at top_ok
       top_ok_lem = rw (← ek, ← em, ← eu, t, ← es, eq-eqb s (length b / size) (omega arith))
-
-      pub top_rest : {r y : ℕ} → Finds b 1 (n - 1) r y → Finds b 0 n r y
-      top_rest f = record {
-        place = f.place ∙ sym (first_next (place_ok b) 0 n (n - 1) (omega arith) top_ok_lem);
-        which = λ z. f.which (omega arith);
-        none = λ z. f.none (omega arith);
-      }
 
       pub top_walk : {c : ℕ} → first_from (field_ok b) 0 n ≡ n → c ≡ byte_of b 0 4 → Walk b 0 1 n 1 m c c 0
       unfolding elder_rank depth_of count_below parent_of last_below end_of
@@ -322,9 +307,17 @@ module _ (b : List ℕ) {n m : ℕ} {k : Kind} {u : Bool} (h : 0 < n) (el : leng
         rank = refl;
       }
 
--- where nothing stands below a child, nothing there breaks a rule
-pub found_leaf : (b : List ℕ) (i : ℕ) {end : ℕ} → end ≡ i + 1 → Finds b (i + 1) (end - (i + 1)) end 0
-found_leaf b i e = record { place = e ∙ sym (first_none (place_ok b) (i + 1) _ (omega arith)); which = λ z. absurd (omega arith); none = λ z. refl }
+-- where it breaks none, the first is the first below it
+pub top_rest : (b : List ℕ) {n : ℕ} → 0 < n → true ≡ top_ok b → (r : Option Broken) → FirstBroken b 1 (n - 1) r → FirstBroken b 0 n r
+unfolding place_ok broken_at
+top_rest b {n} h t r f = go r f
+  where
+    next : first_from (place_ok b) 0 n ≡ first_from (place_ok b) 1 (n - 1)
+    next = first_next (place_ok b) 0 n (n - 1) (omega arith) (rw (← t))
+
+    go : (r : Option Broken) → FirstBroken b 1 (n - 1) r → FirstBroken b 0 n r
+    go None f = record { place = omega (arith, f.place, next); which = λ z. absurd (omega arith); none = λ z. refl }
+    go (Some x) f = (record { place = f.0.place ∙ sym next; which = λ z. f.0.which (omega (arith, f.1)); none = λ z. absurd (omega (arith, f.1)) }, omega (arith, f.1))
 
 -- the search of a row is that of its rest
 pub found : (b : List ℕ) {i k j m at rule : ℕ} → Finds b j m at rule → first_from (place_ok b) i k ≡ first_from (place_ok b) j m → i + k ≡ j + m → Finds b i k at rule

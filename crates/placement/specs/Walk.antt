@@ -1,9 +1,10 @@
 -- Where the walk of the records stands: what it knows of the record before place i whose children it is among. Assumes nothing.
-use Rattle.std.specs.Prelude.{ℕ, ◌+◌, ◌≤◌, ◌<◌, ◌≡◌, List}
+use Rattle.std.specs.Prelude.{ℕ, ◌+◌, ◌≤◌, ◌<◌, ◌≡◌, List, Option, None, Some}
 use Rattle.record.specs.Bytes.{byte_of, span_of}
 use Rattle.fields.specs.First.{first_from}
 use Rattle.fields.specs.Fields.{kind_at}
 use Rattle.operands.specs.Parent.{end_of, parent_of}
+use Rattle.placement.specs.declared.Broken.{Broken}
 use Rattle.placement.specs.Place.{depth_of, kind_number, elder_rank, place_ok, broken_at}
 
 -- p is the parent, e its end, d its depth, pn its number, pc its category, gc that of its parent, er the rank of the child before i; `elder` is that
@@ -32,3 +33,13 @@ pub record Finds (b : List ℕ) (i k at rule : ℕ) : Type 0 where
   pub place : at ≡ first_from (place_ok b) i k
   pub which : at < i + k → rule ≡ broken_at b at
   pub none : at ≡ i + k → rule ≡ 0
+
+-- the same as an option: the record, and the rule that it breaks
+abbrev pub FirstBroken : List ℕ → ℕ → ℕ → Option Broken → Type 0
+FirstBroken b i k None = Finds b i k (i + k) 0
+FirstBroken b i k (Some x) = Finds b i k x.at x.rule × (x.at < i + k)
+
+-- the number of a broken rule as an option; 0 is none
+abbrev pub RuleIs : ℕ → Option ℕ → Type 0
+RuleIs n None = n ≡ 0
+RuleIs n (Some rule) = (rule ≡ n) × (0 < rule)

@@ -1,37 +1,28 @@
--- The number of a judgement fits 64 bits. Assumes nothing.
-use mathlib.Core.Path.{◌≡◌, refl}
+-- What the judgements answer fits where it is packed. Assumes nothing.
+use Rattle.std.specs.Prelude.{Err, Ok}
+use Rattle.std.specs.Result.{MatchResult}
+use mathlib.Core.Path.{◌≡◌, refl, sym, ◌∙◌}
 use mathlib.Core.List.{List}
 use Prim.Native.Nat.{ℕ, ◌<◌, ◌≤◌, ◌^◌}
 use native.Mathlib.Omega.{arith}
-use Rattle.record.specs.Bytes.{most_records, most_entries}
+use Rattle.record.specs.Bytes.{most_records}
+use Rattle.record.specs.Refusals.{line_of}
 use Rattle.record.specs.declared.Refusal.{Refusal}
-use Rattle.judge.specs.Judge.{judge_of}
-use Rattle.judge.specs.Request.{judge_request_of}
-use Rattle.judge.specs.declared.Judged.{Judged}
-use Rattle.judge.specs.declared.Judged.TheVariants as book
-use Rattle.judge.specs.declared.JudgedRequest.{JudgedRequest}
-use Rattle.judge.specs.declared.JudgedRequest.TheVariants as request
-use Rattle.judge.proofs.Bounds.{Small, refused_small, accepted_small, refused_request_small, accepted_request_small}
-use Rattle.text.specs.declared.Filled.TheVariants.{Refused}
-use Rattle.probe.specs.Packed.{packed_of}
-use Rattle.probe.specs.Judgements.{book_packed, request_packed}
+use Rattle.judge.specs.declared.Accepted.{Accepted}
+use Rattle.judge.specs.Judge.{judge_of, Judged}
+use Rattle.judge.specs.Request.{judge_request_of, JudgedRequest}
+use Rattle.judge.proofs.Bounds.{refused_small, accepted_small, refused_request_small, accepted_request_small}
 
-refusal_small : (b : List ℕ) (r : Refusal) (n : ℕ) → n ≤ most_records → Small b r n → packed_of (Refused r) < 2 ^ 64
-unfolding packed_of
-refusal_small b r n h w = omega arith
+request_by : (q : List ℕ) (j : JudgedRequest) → judge_request_of q ≡ j → MatchResult j (λ m. m < 2 ^ 56) (λ r. line_of r ≤ most_records)
+request_by q (Ok n) e = let w = accepted_request_small q n e in omega arith
+request_by q (Err r) e = let w = refused_request_small q r e in omega arith
 
-book_of_lem : (b : List ℕ) (j : Judged) → judge_of b ≡ j → book_packed j < 2 ^ 64
-unfolding book_packed
-book_of_lem b (book.Accepted n m) e = let w = accepted_small b n m e in omega arith
-book_of_lem b (book.Refused r) e = refusal_small b r most_records (omega arith) (refused_small b r e)
+pub request_fits : {j : JudgedRequest} (q : List ℕ) → j ≡ judge_request_of q → MatchResult j (λ m. m < 2 ^ 56) (λ r. line_of r ≤ most_records)
+request_fits q e = rw e (request_by q (judge_request_of q) refl)
 
-pub book_small : (b : List ℕ) → book_packed (judge_of b) < 2 ^ 64
-book_small b = book_of_lem b (judge_of b) refl
+module _ {j : Judged} (b : List ℕ) (e : j ≡ judge_of b) where
+  pub counts_fit : {a : Accepted} → j ≡ Ok a → (a.records ≤ most_records) × (a.obligations ≤ a.records)
+  counts_fit {a} f = accepted_small b a.records a.obligations (sym e ∙ f)
 
-request_of : (q : List ℕ) (j : JudgedRequest) → judge_request_of q ≡ j → request_packed j < 2 ^ 64
-unfolding request_packed
-request_of q (request.Accepted n) e = let w = accepted_request_small q n e in omega arith
-request_of q (request.Refused r) e = refusal_small q r most_entries (omega arith) (refused_request_small q r e)
-
-pub request_small : (q : List ℕ) → request_packed (judge_request_of q) < 2 ^ 64
-request_small q = request_of q (judge_request_of q) refl
+  pub line_fits : {r : Refusal} → j ≡ Err r → line_of r ≤ most_records
+  line_fits {r} f = (refused_small b r (sym e ∙ f)).line

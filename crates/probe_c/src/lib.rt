@@ -7,7 +7,7 @@ ghost use Rattle.text.specs.Wrong.{zeroed};
 ghost use Rattle.judge.specs.Judge.{judge_of};
 ghost use Rattle.judge.specs.Request.{judge_request_of};
 ghost use Rattle.probe.specs.Packed.{packed_of};
-ghost use Rattle.probe.specs.Judgements.{book_packed, request_packed};
+ghost use Rattle.probe.specs.Judgements.{book_packed};
 
 #[unsafe(no_mangle)]
 pub extern "C" fn probe_read_book(text: &[u8], out: &mut [u8]) -> u64
@@ -53,7 +53,7 @@ pub extern "C" fn probe_judge_book(book: &[u8]) -> u64
 
 #[unsafe(no_mangle)]
 pub extern "C" fn probe_judge_request(request: &[u8]) -> u64
-    ensures { result ≡ request_packed (judge_request_of request.now) }
+    ensures { result ≡ packed_of (judge_request_of request.now) }
 {
     probe::probe_judge_request(request)
 }

@@ -1,23 +1,21 @@
 -- Laws of what an entry is found to do: whether it is in its layout, and which one stands at a place. Assumes nothing.
-use Prim.Native.Nat.{ℕ, suc, ◌+◌, ◌/◌, ◌%◌, ◌≤◌, ◌<◌, max}
-use mathlib.Core.Path.{◌≡◌, refl, sym, ◌∙◌}
+use Prim.Native.Nat.{ℕ, suc, ◌+◌, ◌/◌, ◌%◌, ◌≤◌, ◌<◌}
+use mathlib.Core.Path.{◌≡◌, refl, sym}
 use mathlib.Core.Bool.{Bool, true, false}
 use mathlib.Core.List.{List}
 use native.Mathlib.Omega.{arith}
-use lib.Dec.{leb}
 use lib.ListN.{get_or}
 use borrow.Author.Tests.{le-leb, lt-leb, ne_eqb}
-use Rattle.record.specs.Choose.{both}
 use Rattle.record.proofs.Choose.{both_true, both_false}
 use Rattle.meaning.specs.Meaning.{Bags}
 use Rattle.layout.specs.declared.Frame.{Frame}
 use Rattle.layout.specs.declared.Head.{Head}
 use Rattle.moves.specs.declared.Move.{Move}
 use Rattle.programme.specs.declared.Met.{Met}
-use Rattle.programme.specs.declared.Met.TheVariants.{Outside, Does}
+use Rattle.std.specs.Prelude.{Option, Some, None}
 use Rattle.layout.specs.Entry.{Entry, extra, reach, fits, lawful}
-use Rattle.moves.specs.Core.{core, finished}
-use Rattle.layout.specs.Layout.{match_by, compare_by, entry_by, entry_of, fetch}
+use Rattle.moves.specs.Core.{core}
+use Rattle.layout.specs.Layout.{entry_by, entry_of, fetch}
 use Rattle.moves.specs.Moves.{move_of}
 use Rattle.programme.specs.Meets.{met_if, meets}
 
@@ -26,63 +24,28 @@ same_if true v w k n e f = rw (e, f)
 same_if false v w k n e f = refl
 
 module _ (g : Bags) (long : ℕ) (h : Head) (e : Entry) (l m : ℕ) (f b : Frame) where
-  pub met : (r : Met) (ok : Bool) (v : Move) (k : ℕ) → r ≡ met_if ok v k → ok ≡ lawful long h.at e
+  pub met : (r : Option Met) (ok : Bool) (v : Move) (k : ℕ) → r ≡ met_if ok v k → ok ≡ lawful long h.at e
       → v ≡ move_of (core g h e l m f b) → k ≡ extra e → r ≡ meets g long h e l m f b
   unfolding meets
   met r ok v k a o c d = rw (a, o) (same_if (lawful long h.at e) v (move_of (core g h e l m f b)) k (extra e) c d)
 
   pub does : (v : Move) (k : ℕ) → lawful long h.at e ≡ true → v ≡ move_of (core g h e l m f b) → k ≡ extra e
-      → Does v k ≡ meets g long h e l m f b
-  does v k o c d = met (Does v k) true v k refl (sym o) c d
+      → Some (record { does = v; further = k }) ≡ meets g long h e l m f b
+  does v k o c d = met (Some (record { does = v; further = k })) true v k refl (sym o) c d
 
-  pub outside : lawful long h.at e ≡ false → Outside ≡ meets g long h e l m f b
+  pub outside : lawful long h.at e ≡ false → None ≡ meets g long h e l m f b
   unfolding meets
   outside o = rw o
 
 module _ (long at : ℕ) where
-  -- an entry that leads nowhere else, one that leads so far, one beyond the end
+  -- an entry that leads nowhere else, one beyond the end
   pub lawful_fits : (e : Entry) (x : Bool) → at < long → fits e ≡ x → reach e ≡ 0 → x ≡ lawful long at e
   unfolding lawful
   lawful_fits e x a p q = let k : at + 1 ≤ long = omega arith in rw (p, q, le-leb (at + 1) long k, both_true x)
 
-  pub lawful_reach : (e : Entry) (x : Bool) (n : ℕ) → fits e ≡ true → reach e ≡ n → x ≡ leb (at + suc n) long → x ≡ lawful long at e
-  unfolding lawful
-  lawful_reach e x n p q k = rw (p, q) k
-
   pub lawful_beyond : (e : Entry) → long ≤ at → lawful long at e ≡ false
   unfolding lawful
   lawful_beyond e a = let k : long < at + suc (reach e) = omega arith in rw (lt-leb (at + suc (reach e)) long k, both_false (fits e))
-
-  pub compare_lawful : (n literal issuer : ℕ) → lawful long at (compare_by n literal issuer) ≡ leb (at + 2 + suc (n / 68719476736)) long
-  unfolding lawful compare_by
-  compare_lawful n literal issuer = let k : at + suc (2 + n / 68719476736) ≡ at + 2 + suc (n / 68719476736) = omega arith in rw k
-
-  pub compare_short : (n literal issuer : ℕ) → long < at + 3 → lawful long at (compare_by n literal issuer) ≡ false
-  compare_short n literal issuer a = compare_lawful n literal issuer ∙ lt-leb (at + 2 + suc (n / 68719476736)) long (omega arith)
-
-  pub match_lawful : (n literal third : ℕ)
-      → lawful long at (match_by n literal third) ≡ leb (at + 2 + suc (max (n / 549755813888) (max (third % 8192) (third / 8192 % 8192)))) long
-  unfolding lawful match_by
-  match_lawful n literal third =
-      let far : ℕ = max (n / 549755813888) (max (third % 8192) (third / 8192 % 8192)) in
-      let k : at + suc (2 + far) ≡ at + 2 + suc far = omega arith in
-      rw k
-
-  pub match_short : (n literal third : ℕ) → long < at + 3 → lawful long at (match_by n literal third) ≡ false
-  match_short n literal third a =
-      let far : ℕ = max (n / 549755813888) (max (third % 8192) (third / 8192 % 8192)) in
-      match_lawful n literal third ∙ lt-leb (at + 2 + suc far) long (omega arith)
-
--- Deny's obligations are brought down while the decision is Deny and some are left
-module _ (r : Move) (h : Head) (x y : Bool) where
-  pub finish_never : x ≡ false → r ≡ move_of (finished false h) → r ≡ move_of (finished (both x y) h)
-  finish_never e k = rw e k
-
-  pub finish_done : x ≡ true → y ≡ false → r ≡ move_of (finished false h) → r ≡ move_of (finished (both x y) h)
-  finish_done e f k = rw (e, f) k
-
-  pub finish_more : x ≡ true → y ≡ true → r ≡ move_of (finished true h) → r ≡ move_of (finished (both x y) h)
-  finish_more e f k = rw (e, f) k
 
 -- the entry at a place, by its kind
 pub found : (p : List ℕ) (i k : ℕ) → get_or p i 0 % 16 ≡ k → fetch p i ≡ entry_by k (get_or p i 0 / 16) (get_or p (i + 1) 0) (get_or p (i + 2) 0)

@@ -1,5 +1,6 @@
 -- A step: what document 01 says of one in "The programme and its ticks". Assumes nothing.
-use Rattle.std.specs.Prelude.{ℕ, ◌-◌, Bool, false, List, length, get_or, replicate}
+use Rattle.std.specs.Prelude.{ℕ, ◌-◌, Bool, false, List, length, get_or, replicate, Option}
+use Rattle.std.specs.Option.{unwrap_or}
 use Rattle.record.specs.Choose.{if}
 use Rattle.meaning.specs.Meaning.{Bags}
 use Rattle.layout.specs.declared.Head.{Head}
@@ -72,3 +73,7 @@ fresh_of = record {
   levels = replicate room_l 0;
   places = replicate room_p 0;
 }
+
+-- the first number that a function gives if a step was taken, else the one before it
+abbrev pub head_or : Head → Option Head → Head
+head_or h x = unwrap_or x h

@@ -1,4 +1,5 @@
 -- The claims of specs/Ticks.antt. Assumes nothing.
+use Rattle.std.specs.Prelude.{Err, Ok}
 use Prim.Native.Nat.{ℕ}
 use mathlib.Core.Path.{◌≡◌, refl, sym, ap, ◌∙◌}
 use mathlib.Core.Bool.{Bool, true, false}
@@ -12,18 +13,15 @@ use Rattle.record.specs.Refusals.{no_room, bad_run}
 use Rattle.record.proofs.Choose.{both_parts}
 use Rattle.meaning.specs.Reading.{bags_of}
 use Rattle.meaning.specs.declared.Verdict.{Verdict}
-use Rattle.judge.specs.Request.{judge_request_of}
-use Rattle.judge.specs.declared.JudgedRequest.{JudgedRequest}
-use Rattle.judge.specs.declared.JudgedRequest.TheVariants as judged
+use Rattle.judge.specs.Request.{judge_request_of, JudgedRequest}
 use Rattle.layout.specs.declared.State.{State}
 use Rattle.layout.specs.Layout.{unpack_of, allowed}
 use Rattle.programme.specs.Step.{is_over}
-use Rattle.run.specs.Run.{run_of}
+use Rattle.run.specs.Run.{run_of, Ran}
 use Rattle.run.specs.Runs.{steps_left}
 use Rattle.run.specs.Tick.{Ticked, admitted, refused, count_of, first_places, answered, ran_of, judged_tick, tick_of}
 use Rattle.run.specs.declared.kinds.Answer.{Answer}
 use Rattle.run.specs.declared.kinds.Answer.TheVariants.{Running, Finished, Refused}
-use Rattle.run.specs.declared.kinds.Ran.{Ran}
 use Rattle.run.proofs.Laws.{admit_parts}
 use Rattle.run.proofs.Runs.{finished_stays, runs_stay_allowed}
 use Rattle.promises.specs.Place.{head_of, Sized}
@@ -65,15 +63,15 @@ module _ (p q : List ℕ) (s : State) (b : ℕ) (out : List ℕ) where
       ran w true e n = (w, e)
       ran w false e n = absurd n
 
-      fit : (m : ℕ) → judge_request_of q ≡ judged.Accepted m → (short fits : Bool) → ltb (length out) room_p ≡ short → admitted (length p) s.head ≡ fits
+      fit : (m : ℕ) → judge_request_of q ≡ Ok m → (short fits : Bool) → ltb (length out) room_p ≡ short → admitted (length p) s.head ≡ fits
           → Unless (if short (refused no_room s out) (if fits (ran_of run.ok run s out) (refused bad_run s out)))
       fit m j true fits e f n = absurd n
       fit m j false true e f n = ran (record { entries = m; request = j; room = ltb-false _ _ e; layout = f }) run.ok refl n
       fit m j false false e f n = absurd n
 
       asked : (j : JudgedRequest) → judge_request_of q ≡ j → Unless (judged_tick p (bags_of q) j s b out)
-      asked (judged.Refused r) e n = absurd n
-      asked (judged.Accepted m) e n = fit m e (ltb (length out) room_p) (admitted (length p) s.head) refl refl n
+      asked (Err r) e n = absurd n
+      asked (Ok m) e n = fit m e (ltb (length out) room_p) (admitted (length p) s.head) refl refl n
 
 abbrev steps_of : Ticked → ℕ
 steps_of t = t.tick.steps
@@ -157,8 +155,8 @@ module _ (p q : List ℕ) (s : State) (b : ℕ) (out : List ℕ) where
       fit false false n = (refl, refl, refl)
 
       asked : (j : JudgedRequest) → Stays (judged_tick p (bags_of q) j s b out)
-      asked (judged.Refused r) n = (refl, refl, refl)
-      asked (judged.Accepted m) n = fit (ltb (length out) room_p) (admitted (length p) s.head) n
+      asked (Err r) n = (refl, refl, refl)
+      asked (Ok m) n = fit (ltb (length out) room_p) (admitted (length p) s.head) n
 
 pub refused_stays : RefusedStays
 refused_stays p q s b out n = refused_stays_so p q s b out n
@@ -242,5 +240,5 @@ ticks_stay_sized p q s b out w = asked (judge_request_of q)
     fit false false = w
 
     asked : (j : JudgedRequest) → Sized (judged_tick p (bags_of q) j s b out).tick.state
-    asked (judged.Refused x) = w
-    asked (judged.Accepted m) = fit (ltb (length out) room_p) (admitted (length p) s.head)
+    asked (Err x) = w
+    asked (Ok m) = fit (ltb (length out) room_p) (admitted (length p) s.head)

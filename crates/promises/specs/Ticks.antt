@@ -1,11 +1,10 @@
 -- What is claimed of ticks, of any programme, request, state and output. `proofs/Ticks.antt` proves it. Assumes nothing.
-use Rattle.std.specs.Prelude.{ℕ, ◌-◌, ◌≤◌, min, ◌≡◌, true, List, ◌++◌, leb, length, take, replicate}
+use Rattle.std.specs.Prelude.{ℕ, ◌-◌, ◌≤◌, min, ◌≡◌, true, List, ◌++◌, leb, length, take, replicate, Ok}
 use Rattle.record.specs.Choose.{if, either}
 use Rattle.record.specs.Refusals.{bad_run}
 use Rattle.meaning.specs.Reading.{bags_of}
 use Rattle.meaning.specs.declared.Verdict.{Verdict}
 use Rattle.judge.specs.Request.{judge_request_of}
-use Rattle.judge.specs.declared.JudgedRequest.TheVariants as judged
 use Rattle.layout.specs.declared.Head.{Head}
 use Rattle.layout.specs.declared.State.{State}
 use Rattle.programme.specs.Step.{is_over, count_by}
@@ -20,7 +19,7 @@ use Rattle.layout.specs.Room.{room_p}
 -- nothing is refused before the first step: the request is one, the output has room, and the layout allows programme and state
 pub record Sound (p q : List ℕ) (s : State) (out : List ℕ) : Type 0 where
   pub entries : ℕ
-  pub request : judge_request_of q ≡ judged.Accepted entries
+  pub request : judge_request_of q ≡ Ok entries
   pub room : room_p ≤ length out
   pub layout : admitted (length p) s.head ≡ true
 
@@ -78,7 +77,7 @@ abbrev pub AnswersAgain : Type 0
 AnswersAgain =
     (p q : List ℕ) (s : State) (budget : ℕ) (out : List ℕ) (v : Verdict) (count : ℕ) → (tick_of p q s budget out).tick.answer ≡ Finished v count
     → ((tick_of p q s budget out).out ≡ first_places (tick_of p q s budget out).tick.state ++ replicate (length out - count) 0)
-    × ((r : List ℕ) (m more : ℕ) (lent : List ℕ) → judge_request_of r ≡ judged.Accepted m → room_p ≤ length lent
+    × ((r : List ℕ) (m more : ℕ) (lent : List ℕ) → judge_request_of r ≡ Ok m → room_p ≤ length lent
     → tick_of p r (tick_of p q s budget out).tick.state more lent ≡ again (tick_of p q s budget out).tick.state v count lent)
 
 -- a tick keeps how many numbers a state has

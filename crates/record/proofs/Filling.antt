@@ -1,10 +1,10 @@
 -- A loop that fills a lent list from a place on, whatever the width of its numbers. Assumes nothing.
 use mathlib.Core.Path.{◌≡◌, refl, sym, ◌∙◌}
-use mathlib.Core.List.{List, ◌++◌, append-nil}
-use Prim.Native.Nat.{ℕ, suc, ◌+◌, ◌-◌, ◌≤◌, ◌<◌}
+use mathlib.Core.List.{List, ◌++◌}
+use Prim.Native.Nat.{ℕ, suc, ◌+◌, ◌<◌}
 use native.Mathlib.Omega.{arith}
-use lib.ListN.{length, get_or, set, take, drop, replicate, length-set, length-replicate, get_or-replicate}
-use lib.Seq.{paste, paste-zero, paste-suc, take_all, drop-length}
+use lib.ListN.{length, get_or, set, take, drop, length-set}
+use lib.Seq.{paste, paste-zero, paste-suc, take_all}
 use Rattle.record.specs.Table.{tab}
 use Rattle.record.proofs.Table.{length_tab, get_d_tab}
 
@@ -34,19 +34,3 @@ module _ (f : ℕ → ℕ) (n : ℕ) {d out : List ℕ} {j : ℕ} (w : Filled d 
 
   pub tab_done : j ≡ n → out ≡ tab f n ++ drop n d
   tab_done e = copy_done n w e ∙ rw (take_all n (tab f n) (omega (arith, length_tab f n)))
-
--- zeros from the place `at` to below k
-abbrev pub Cleared : List ℕ → ℕ → ℕ → List ℕ → Type 0
-Cleared d at k out = Filled d at (replicate (length d - at) 0) (k - at) out
-
-module _ (d : List ℕ) (at k : ℕ) {out : List ℕ} (w : Cleared d at k out) (from : at ≤ k) where
-  pub clear_more : k < length d → Cleared d at (k + 1) (set out k 0)
-  clear_more h =
-      let l : k - at < length d - at = omega arith in
-      fill_more w (omega arith) (omega arith) h (omega (arith, length-replicate {A = ℕ} (length d - at) 0)) (sym (get_or-replicate (length d - at) (k - at) 0 0 l))
-
-  pub clear_done : k ≡ length d → out ≡ take at d ++ replicate (length d - at) 0
-  clear_done e =
-      let f : at + (k - at) ≡ length d = omega arith in
-      let all = take_all {A = ℕ} (k - at) (replicate (length d - at) 0) (omega (arith, length-replicate {A = ℕ} (length d - at) 0)) in
-      w.holds ∙ rw (f, all, drop-length, append-nil)

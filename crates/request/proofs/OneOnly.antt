@@ -1,15 +1,15 @@
 -- The one and only value of a key is a number. Assumes nothing.
+use Rattle.std.specs.Prelude.{Ok}
 use mathlib.Core.Path.{◌≡◌, sym, ◌∙◌, subst}
 use mathlib.Core.Bool.{Bool, true, false}
 use mathlib.Core.List.{List, [], ◌∷◌, ◌++◌}
 use Prim.Native.Nat.{ℕ, zero, suc, ◌+◌, ◌*◌}
+use Rattle.sums.specs.Worth.{Worth}
 use lib.Dec.{T}
 use Rattle.record.specs.Choose.{if}
 use Rattle.record.specs.Bytes.{size, big_of}
 use Rattle.value.specs.declared.Value.{Value}
 use Rattle.sums.specs.Sums.{is_number}
-use Rattle.sums.specs.declared.Worth.{Worth}
-use Rattle.sums.specs.declared.Worth.TheVariants.{Is}
 use Rattle.sums.proofs.Numbers.{value_number}
 use Rattle.meaning.specs.Meaning.{the_only}
 use Rattle.meaning.specs.Numbers.{value_under}
@@ -31,11 +31,11 @@ bag_numbers q key (suc left) k = go (takes key (key_in q k)) (bag_numbers q key 
     go true rest = (value_number key.type (big_of q (k * size + 8) 8), rest)
     go false rest = rest
 
-pub one_number : (q : List ℕ) (key : Key) {b : Worth} {v : Value} → b ≡ the_only (bags_of q key) → b ≡ Is v → T (is_number v)
+pub one_number : (q : List ℕ) (key : Key) {b : Worth} {v : Value} → b ≡ the_only (bags_of q key) → b ≡ Ok v → T (is_number v)
 unfolding bags_of Numbers
 one_number q key {v = v} e f = go (bag_from q key (entries_of q) 0) (bag_numbers q key (entries_of q) 0) (sym e ∙ f)
   where
-    go : (vs : List Value) → Numbers vs → the_only vs ≡ Is v → T (is_number v)
+    go : (vs : List Value) → Numbers vs → the_only vs ≡ Ok v → T (is_number v)
     go [] h z = let x : true ≡ is_number v = cc in subst T x tt
     go (w ∷ []) h z = let x : w ≡ v = cc in subst (λ (u : Value). T (is_number u)) x h.0
     go (w ∷ u ∷ vs) h z = let x : true ≡ is_number v = cc in subst T x tt

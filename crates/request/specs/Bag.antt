@@ -1,19 +1,28 @@
 -- How the bag of a key is found in a request: entry after entry. Assumes nothing.
-use Rattle.std.specs.Prelude.{ℕ, zero, suc, ◌+◌, ◌-◌, ◌/◌, List, length}
-use Rattle.record.specs.Choose.{if}
-use Rattle.record.specs.Bytes.{size}
+use Rattle.std.specs.Prelude.{ℕ, ◌+◌, ◌-◌, ◌*◌, ◌/◌, ◌<◌, ◌≤◌, ◌≡◌, List, [], ◌∷◌, length, Option, None, Some, IfSome}
+use Rattle.record.specs.Bytes.{size, big_of}
+use Rattle.value.specs.declared.Value.{Value}
+use Rattle.meaning.specs.Numbers.{value_under}
 use Rattle.meaning.specs.Policy.{Key}
-use Rattle.meaning.specs.Reading.{key_in, takes}
+use Rattle.meaning.specs.Reading.{bag_from}
 
 -- the entries of a request
 abbrev pub entries_of : List ℕ → ℕ
 entries_of q = length q / size
 
--- the first of `left` entries from k on that the key takes; the place behind them where it takes none
-unfoldable pub first_of : List ℕ → Key → ℕ → ℕ → ℕ
-first_of q key zero k = k
-first_of q key (suc left) k = if (takes key (key_in q k)) k (first_of q key left (k + 1))
+-- the rest of a bag from entry k on, and the value of entry k
+abbrev pub rest_of : List ℕ → Key → ℕ → List Value
+rest_of q key k = bag_from q key (entries_of q - k) k
 
--- the next entry of the key, from k on
-abbrev pub next_of : List ℕ → Key → ℕ → ℕ
-next_of q key k = first_of q key (entries_of q - k) k
+abbrev pub value_in : List ℕ → Key → ℕ → Value
+value_in q key k = value_under key (big_of q (k * size + 8) 8)
+
+-- the rest of a bag that begins with the value of this entry; empty where there is none
+abbrev pub rest_at : List ℕ → Key → Option ℕ → List Value
+rest_at q key None = []
+rest_at q key (Some k) = value_in q key k ∷ rest_of q key (k + 1)
+
+-- the next entry of the key, from this one on: with it the rest of its bag begins
+pub record Next (q : List ℕ) (key : Key) (from : ℕ) (found : Option ℕ) : Type 0 where
+  pub rest : rest_of q key from ≡ rest_at q key found
+  pub place : IfSome found (λ k. (from ≤ k) × (k < entries_of q))

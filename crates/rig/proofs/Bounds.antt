@@ -1,4 +1,5 @@
 -- How large the numbers of an answer are. Assumes nothing.
+use Rattle.std.specs.Prelude.{Err, Ok}
 use Prim.Native.Nat.{ℕ, ◌*◌, ◌≤◌}
 use mathlib.Core.Path.{◌≡◌, refl}
 use mathlib.Core.Bool.{Bool, true, false}
@@ -8,11 +9,9 @@ use lib.ListN.{length, take, drop, get_or, length-append}
 use native.Mathlib.Omega.{arith}
 use borrow.Author.Tests.{ltb-false}
 use Rattle.record.specs.Choose.{if, either}
-use Rattle.record.specs.Refusals.{no_room}
+use Rattle.record.specs.Refusals.{line_of, no_room}
 use Rattle.meaning.specs.Reading.{book_of}
-use Rattle.judge.specs.Judge.{judge_of}
-use Rattle.judge.specs.declared.Judged.{Judged}
-use Rattle.judge.specs.declared.Judged.TheVariants as book
+use Rattle.judge.specs.Judge.{judge_of, Judged}
 use Rattle.judge.proofs.Bounds.{refused_small}
 use Rattle.judge.proofs.Exactly.{accepted_keeps}
 use Rattle.layout.specs.declared.State.{State}
@@ -20,9 +19,7 @@ use Rattle.layout.specs.Entry.{loads, asks, works, tests, Entry, begin, match, f
 use Rattle.layout.specs.Layout.{allowed, piece_words, words_of}
 use Rattle.programme.specs.Step.{state_of}
 use Rattle.code.specs.Code.{translated as code, in_numbers}
-use Rattle.translator.specs.Translate.{programme_of, room_for, answer_to, translate_of}
-use Rattle.translator.specs.declared.Translated.{Translated}
-use Rattle.translator.specs.declared.Translated.TheVariants as translated
+use Rattle.translator.specs.Translate.{programme_of, room_for, answer_to, translate_of, Translated}
 use Rattle.emission.proofs.Emit.{programme_short}
 use Rattle.rig.specs.Rig.{no_state, state_in}
 use Rattle.layout.specs.Room.{room_p}
@@ -44,8 +41,8 @@ long_enough ns ps = go (ltb (length ns) 33) (ltb (length ps) room_p) (state_of (
 
 -- an answer to translating: an entry is at most three numbers
 abbrev pub SmallTranslated : Translated → Type 0
-SmallTranslated (translated.Entries n) = n ≤ 24024
-SmallTranslated (translated.Refused r) = r.line ≤ most_records
+SmallTranslated (Ok n) = n ≤ 24024
+SmallTranslated (Err r) = line_of r ≤ most_records
 
 few_words : (e : Entry) → length (words_of e) ≤ 3
 unfolding words_of piece_words
@@ -76,13 +73,13 @@ pub translate_small : (b : List ℕ) (room : ℕ) → SmallTranslated (translate
 unfolding translate_of programme_of
 translate_small b room = go (judge_of b) refl
   where
-    written : (short : Bool) (n : ℕ) → n ≤ 24024 → SmallTranslated (if short (translated.Refused no_room) (translated.Entries n))
+    written : (short : Bool) (n : ℕ) → n ≤ 24024 → SmallTranslated (if short (Err no_room) (Ok n))
     written true n l = omega arith
     written false n l = l
 
     go : (j : Judged) → judge_of b ≡ j → SmallTranslated (answer_to j b room)
-    go (book.Refused r) e = (refused_small b r e).line
-    go (book.Accepted n m) e =
-        let k = (accepted_keeps b n m e).0.sized in
-        let w = programme_short b n k.bytes k.some in
-        written (ltb room (room_for n)) (length (programme_of b)) (omega (arith, k.most, w, few_numbers (code (book_of b))))
+    go (Err r) e = (refused_small b r e).line
+    go (Ok a) e =
+        let k = (accepted_keeps b a.records a.obligations e).0.sized in
+        let w = programme_short b a.records k.bytes k.some in
+        written (ltb room (room_for a.records)) (length (programme_of b)) (omega (arith, k.most, w, few_numbers (code (book_of b))))

@@ -1,59 +1,28 @@
 -- Laws of the rig's calls, over plain variables. Assumes nothing.
-use Prim.Native.Nat.{ℕ, ◌+◌, ◌<◌, ◌≤◌}
+use Rattle.std.specs.Prelude.{Err, Ok}
+use Prim.Native.Nat.{ℕ, ◌≤◌}
 use mathlib.Core.Path.{◌≡◌, refl, sym, ap, ◌∙◌}
-use mathlib.Core.List.{List, [], ◌∷◌, ◌++◌, append_assoc, append-nil}
-use lib.ListN.{length, get_or, set, take, drop, length-append, length-drop}
-use lib.Seq.{take_at, drop_at, drop-drop, take_all, take-length, drop-length}
+use mathlib.Core.List.{List, [], ◌∷◌, ◌++◌, append_assoc}
+use lib.ListN.{length, set, drop, length-append}
+use lib.Seq.{take_at, drop_at, drop-drop}
 use native.Mathlib.Omega.{arith}
-use borrow.Author.Tests.{lt-ltb, le-ltb}
 use borrow.Rule.Slice.PartMut.{put_mid}
-use Rattle.record.specs.Refusals.{no_room, refusal_number}
+use Rattle.record.specs.Refusals.{line_of, refusal_number}
 use Rattle.record.specs.declared.Refusal.{Refusal}
-use Rattle.record.proofs.Filling.{Filled, copy_done}
 use Rattle.meaning.specs.declared.Verdict.{Verdict}
 use Rattle.layout.specs.declared.State.{State}
-use Rattle.programme.specs.Step.{state_of, fresh_of}
 use Rattle.run.specs.Tick.{tick_of}
 use Rattle.run.specs.declared.kinds.Answer.TheVariants.{Running, Finished, Refused}
 use Rattle.run.specs.declared.kinds.Tick.{Tick}
 use Rattle.run.proofs.Bounds.{Small, tick_small}
-use Rattle.translator.specs.Translate.{translate_of, leaves}
-use Rattle.translator.specs.declared.Translated.{Translated}
-use Rattle.translator.specs.declared.Translated.TheVariants as translated
-use Rattle.rig.specs.Rig.{no_state, state_in, numbers_of, over, call, put, fresh_call, running_number, finished_number, tick_in, tick_call, translated_number}
+use Rattle.translator.specs.Translate.{translate_of, leaves, Translated}
+use Rattle.rig.specs.Rig.{state_in, numbers_of, over, call, running_number, finished_number, tick_in, tick_call, translated_number}
 use Rattle.rig.proofs.Bounds.{long_enough, translate_small}
 use Rattle.layout.specs.Room.{room_p}
 use Rattle.record.specs.Bytes.{most_records}
 
--- a copy that has come to its end
-pub copied_all : (xs d out : List ℕ) (i : ℕ) → length xs ≡ length d → i ≡ length d → Filled d 0 xs i out → out ≡ xs
-copied_all xs d out i same end w =
-    copy_done (length d) w end ∙ rw (drop-length, append-nil, ← same) (take-length xs)
-
--- the state that lent numbers and places hold
-module _ (ns ps : List ℕ) where
-  pub few_numbers : {s : State} → length ns < 33 → s ≡ no_state → s ≡ state_in ns ps
-  unfolding state_in
-  few_numbers few e = rw (lt-ltb _ _ few) e
-
-  pub few_places : {s : State} → 33 ≤ length ns → length ps < room_p → s ≡ no_state → s ≡ state_in ns ps
-  unfolding state_in
-  few_places enough few e = rw (le-ltb _ _ enough, lt-ltb _ _ few) e
-
-  pub held : {fs ls hs : List ℕ} → 33 ≤ length ns → room_p ≤ length ps → fs ≡ take 17 (drop 1 ns) → ls ≡ take 15 (drop 18 ns) → hs ≡ take room_p ps
-      → state_of (get_or ns 0 0) fs ls hs ≡ state_in ns ps
-  unfolding state_in
-  held numbers places f l h = rw (le-ltb _ _ numbers, le-ltb _ _ places, f, l, h) refl
-
 -- the numbers of a state that are put into them: the first number, the frames, the levels
 module _ (ns : List ℕ) (h : ℕ) (fs : List ℕ) (enough : 33 ≤ length ns) (frames : length fs ≡ 17) where
-  pub put_frames : {ms : List ℕ} → ms ≡ fs → length (put_mid 1 17 (set ns 0 h) ms) ≡ length ns
-  put_frames e = rw (e, length-append, length-append) (go ns enough)
-    where
-      go : (l : List ℕ) → 33 ≤ length l → length (take 1 (set l 0 h)) + (length fs + length (drop 17 (drop 1 (set l 0 h)))) ≡ length l
-      go [] g = absurd (omega arith)
-      go (x ∷ l) g = omega (arith, length-drop 17 l)
-
   module _ (ls : List ℕ) (levels : length ls ≡ 15) {ms os : List ℕ} (e : ms ≡ fs) (f : os ≡ ls) where
     pub put_numbers : put_mid 18 15 (put_mid 1 17 (set ns 0 h) ms) os ≡ over (h ∷ (fs ++ ls)) ns
     put_numbers = rw (e, f) (go ns enough)
@@ -64,28 +33,6 @@ module _ (ns : List ℕ) (h : ℕ) (fs : List ℕ) (enough : 33 ≤ length ns) (
             rw (take_at fs (drop 17 l) 17 frames, drop_at fs (drop 17 l) 17 frames, drop-drop 15 17 l, length-append, frames, levels)
             (ap (λ xs. h ∷ xs) (sym (append_assoc fs ls (drop 32 l))))
 
-    pub put_length : length (put_mid 18 15 (put_mid 1 17 (set ns 0 h) ms) os) ≡ length ns
-    put_length = ap length put_numbers ∙ omega (arith, length-append (h ∷ (fs ++ ls)) (drop (length (h ∷ (fs ++ ls))) ns), length-drop (length (h ∷ (fs ++ ls))) ns, length-append fs ls)
-
-pub put_places : (ps hs : List ℕ) {ms : List ℕ} → length hs ≡ room_p → ms ≡ take room_p hs ++ drop room_p ps → ms ≡ over hs ps
-put_places ps hs long e = rw (e, long, take_all room_p hs (omega arith)) refl
-
--- the fresh state
-module _ (ns ps : List ℕ) where
-  module _ {r : Refusal} {x : ℕ} (why : r ≡ no_room) (number : x ≡ refusal_number r) where
-    pub fresh_few_numbers : length ns < 33 → call x ns ps ≡ fresh_call ns ps
-    unfolding fresh_call
-    fresh_few_numbers few = rw (lt-ltb _ _ few, number, why) refl
-
-    pub fresh_few_places : 33 ≤ length ns → length ps < room_p → call x ns ps ≡ fresh_call ns ps
-    unfolding fresh_call
-    fresh_few_places enough few = rw (le-ltb _ _ enough, lt-ltb _ _ few, number, why) refl
-
-  pub fresh_put : {s : State} {ms rs : List ℕ} → 33 ≤ length ns → room_p ≤ length ps → s ≡ fresh_of → ms ≡ over (numbers_of s) ns → rs ≡ over s.places ps
-      → call 0 ms rs ≡ fresh_call ns ps
-  unfolding fresh_call
-  fresh_put numbers places e f g = rw (le-ltb _ _ numbers, le-ltb _ _ places, f, g) (ap (λ s. put 0 s ns ps) e)
-
 -- a tick
 module _ (p q ns ps : List ℕ) (b : ℕ) (out : List ℕ) {s : State} {t : Tick} (held : s ≡ state_in ns ps) (ticked : t ≡ (tick_of p q s b out).tick) where
   is_tick : t ≡ (tick_in p q ns ps b out).tick
@@ -95,7 +42,7 @@ module _ (p q ns ps : List ℕ) (b : ℕ) (out : List ℕ) {s : State} {t : Tick
   small : (t.steps ≤ 8008) × Small (state_in ns ps) t.answer
   small = rw (rw held at ticked) (tick_small p q (state_in ns ps) b out)
 
-  pub refused_line : {r : Refusal} → t.answer ≡ Refused r → r.line ≤ most_records
+  pub refused_line : {r : Refusal} → t.answer ≡ Refused r → line_of r ≤ most_records
   refused_line e = rw e at small.1
 
   pub running_fits : t.answer ≡ Running → (33 ≤ length ns) × (room_p ≤ length ps) × (t.steps ≤ 8008)
@@ -127,10 +74,10 @@ module _ (p q ns ps : List ℕ) (b : ℕ) (out : List ℕ) {s : State} {t : Tick
 
 -- translating
 module _ (b out : List ℕ) {y : Translated} (answer : y ≡ translate_of b (length out)) where
-  pub entries_few : {n : ℕ} → y ≡ translated.Entries n → n ≤ 24024
+  pub entries_few : {n : ℕ} → y ≡ Ok n → n ≤ 24024
   entries_few e = rw (sym answer ∙ e) at (translate_small b (length out))
 
-  pub refused_translating : {r : Refusal} → y ≡ translated.Refused r → r.line ≤ most_records
+  pub refused_translating : {r : Refusal} → y ≡ Err r → line_of r ≤ most_records
   refused_translating e = rw (sym answer ∙ e) at (translate_small b (length out))
 
   pub translates : {x : ℕ} {o : List ℕ} → x ≡ translated_number y → o ≡ leaves y b out

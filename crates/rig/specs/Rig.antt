@@ -1,5 +1,6 @@
 -- The calls of the rig's loop: a state as lent numbers and places, and each answer as one number. Assumes nothing.
-use Rattle.std.specs.Prelude.{ℕ, ◌+◌, ◌*◌, Bool, List, ◌∷◌, ◌++◌, ltb, length, take, drop, get_or, replicate}
+use Rattle.std.specs.Prelude.{ℕ, ◌+◌, ◌*◌, Bool, List, ◌∷◌, ◌++◌, ltb, length, take, drop, get_or, replicate, Err, Ok}
+use Rattle.translator.specs.Translate.{Translated}
 use Rattle.record.specs.Choose.{if, either}
 use Rattle.record.specs.Refusals.{no_room, refusal_number}
 use Rattle.record.specs.declared.Refusal.{Refusal}
@@ -12,8 +13,6 @@ use Rattle.run.specs.Tick.{Ticked, tick_of}
 use Rattle.run.specs.declared.kinds.Answer.{Answer}
 use Rattle.run.specs.declared.kinds.Answer.TheVariants.{Running, Finished, Refused}
 use Rattle.run.specs.declared.kinds.Tick.{Tick}
-use Rattle.translator.specs.declared.Translated.{Translated}
-use Rattle.translator.specs.declared.Translated.TheVariants as translated
 use Rattle.layout.specs.Room.{room_p}
 
 -- the numbers of a state: the first number, 17 frames, 15 levels
@@ -81,5 +80,5 @@ tick_call t numbers places = answered t.answer t numbers places
 
 -- translating: 256 times the entries, or the refusal
 abbrev pub translated_number : Translated → ℕ
-translated_number (translated.Entries n) = 256 * n
-translated_number (translated.Refused r) = refusal_number r
+translated_number (Ok n) = 256 * n
+translated_number (Err r) = refusal_number r

@@ -1,4 +1,5 @@
 // The calls of the rig's loop. They take apart what is lent, call the functions of other crates, and put together what those give.
+// Kept: `as` between usize and u64, since there is no `From` between them.
 #![tactic(auto)]
 
 ghost use Rattle.std.specs.Prelude.{◌≡◌, ◌∷◌, ◌++◌, ◌≤◌, length};
@@ -6,54 +7,51 @@ ghost use Rattle.translator.specs.Translate.{translate_of, leaves};
 ghost use Rattle.rig.specs.Rig.{no_state, state_in, numbers_of, over, call, fresh_call, running_number, finished_number, tick_in, tick_call, translated_number};
 ghost use Rattle.layout.specs.Room.{room_p};
 
-use layout::{PLACES, State};
+use layout::{FRAMES, LEVELS, PLACES, State};
 use meaning::Verdict;
+use record::Refusal;
 use run::kinds::Answer;
-use translator::Translated;
 
-// What a state takes: the first number, 17 frames and 15 levels; and its places.
-const NUMBERS: usize = 33;
+// What a state takes: the first number, and so many frames and levels behind it; and its places.
+const LEVELS_AT: usize = 1 + FRAMES;
 
-// Copies numbers from one slice to another as long.
-fn copy_numbers(from: &[u64], to: &mut [u64])
-    requires { length from.now ≡ length to.old }
-    ensures { to.new ≡ from.now }
-{
-    let mut i: usize = 0;
-    while i < to.len() {
-        to[i] = from[i];
-        i += 1;
-    }
-}
+const NUMBERS: usize = LEVELS_AT + LEVELS;
+
+// Where the fields of an answer start, behind the decision's number.
+const COUNT: u64 = 256;
+
+const CODE: u64 = 16777216;
+
+const STEPS: u64 = 4294967296;
 
 // A state that no layout allows.
+// Kept: specs/Rig.antt gives numbers that are too few this state (`no_state`, `state_in`), and the calls' contracts speak of it; so it is no `None`.
+#[tactic(auto, unfolding(crate::specs::Rig::no_state))]
 fn no_state() -> State
     ensures { result ≡ no_state }
 {
     State {
-        head: 18446744073709551615,
-        frames: [0; 17],
-        levels: [0; 15],
+        head: u64::MAX,
+        frames: [0; FRAMES],
+        levels: [0; LEVELS],
         places: [0; PLACES],
     }
 }
 
 // The state that lent numbers and places hold; where they are too short for one, none that the layout allows.
+#[tactic(auto, unfolding(crate::specs::Rig::state_in))]
 fn state_in(numbers: &[u64], places: &[u16]) -> State
     ensures { result ≡ state_in numbers.now places.now }
 {
-    if numbers.len() < NUMBERS {
+    if numbers.len() < NUMBERS || places.len() < PLACES {
         return no_state();
     }
-    if places.len() < PLACES {
-        return no_state();
-    }
-    let mut frames: [u64; 17] = [0; 17];
-    let mut levels: [u64; 15] = [0; 15];
-    let mut held: [u16; PLACES] = [0; PLACES];
-    copy_numbers(&numbers[1..18], &mut frames);
-    copy_numbers(&numbers[18..33], &mut levels);
-    lent::copy(places, PLACES, &mut held);
+    let mut frames = [0; FRAMES];
+    let mut levels = [0; LEVELS];
+    let mut held = [0; PLACES];
+    frames.copy_from_slice(&numbers[1..LEVELS_AT]);
+    levels.copy_from_slice(&numbers[LEVELS_AT..NUMBERS]);
+    held.copy_from_slice(&places[..PLACES]);
     State {
         head: numbers[0],
         frames,
@@ -63,13 +61,13 @@ fn state_in(numbers: &[u64], places: &[u16]) -> State
 }
 
 // Puts the numbers of a state into the first of lent numbers.
-fn put_numbers(head: u64, frames: &[u64; 17], levels: &[u64; 15], numbers: &mut [u64])
+fn put_numbers(head: u64, frames: &[u64; FRAMES], levels: &[u64; LEVELS], numbers: &mut [u64])
     requires { 33 ≤ length numbers.old }
     ensures { numbers.new ≡ over (head ∷ (frames.now ++ levels.now)) numbers.old }
 {
     numbers[0] = head;
-    copy_numbers(frames, &mut numbers[1..18]);
-    copy_numbers(levels, &mut numbers[18..33]);
+    numbers[1..LEVELS_AT].copy_from_slice(frames);
+    numbers[LEVELS_AT..NUMBERS].copy_from_slice(levels);
 }
 
 // Puts the places of a state into the first of lent places.
@@ -77,7 +75,7 @@ fn put_places(held: &[u16; PLACES], places: &mut [u16])
     requires { room_p ≤ length places.old }
     ensures { places.new ≡ over held.now places.old }
 {
-    lent::copy(held, PLACES, places);
+    places[..PLACES].copy_from_slice(held);
 }
 
 // Puts a state into the first of lent numbers and places.
@@ -85,11 +83,8 @@ fn put_state(state: State, numbers: &mut [u64], places: &mut [u16])
     requires { (33 ≤ length numbers.old) × (room_p ≤ length places.old) }
     ensures { (numbers.new ≡ over (numbers_of state) numbers.old) × (places.new ≡ over state.places places.old) }
 {
-    let frames = state.frames;
-    let levels = state.levels;
-    let held = state.places;
-    put_numbers(state.head, &frames, &levels, numbers);
-    put_places(&held, places);
+    put_numbers(state.head, &state.frames, &state.levels, numbers);
+    put_places(&state.places, places);
 }
 
 // Translates a book into lent entries: 256 times their number, or the refusal.
@@ -98,20 +93,18 @@ pub fn bachumoi_translate(book: &[u8], programme: &mut [u64]) -> u64
         × (programme.new ≡ leaves (translate_of book.now (length programme.old)) book.now programme.old) }
 {
     match translator::translate(book, programme) {
-        Translated::Entries(n) => 256 * n as u64,
-        Translated::Refused(why) => record::refusal_number(why),
+        Ok(n) => 256 * n as u64,
+        Err(why) => record::refusal_number(why),
     }
 }
 
 // Puts the fresh state into lent numbers and places: 0, or the refusal.
+#[tactic(auto, unfolding(crate::specs::Rig::fresh_call))]
 pub fn bachumoi_fresh(numbers: &mut [u64], places: &mut [u16]) -> u64
     ensures { call result numbers.new places.new ≡ fresh_call numbers.old places.old }
 {
-    if numbers.len() < NUMBERS {
-        return record::refusal_number(record::no_room());
-    }
-    if places.len() < PLACES {
-        return record::refusal_number(record::no_room());
+    if numbers.len() < NUMBERS || places.len() < PLACES {
+        return record::refusal_number(Refusal::NoRoom);
     }
     put_state(run::fresh(), numbers, places);
     0
@@ -122,15 +115,15 @@ fn running(steps: u64) -> u64
     requires { steps ≤ 8008 }
     ensures { result ≡ running_number steps }
 {
-    4294967296 * steps
+    STEPS * steps
 }
 
 fn finished(v: Verdict, count: u64, steps: u64) -> u64
     requires { (count ≤ room_p) × (steps ≤ 8008) }
     ensures { result ≡ finished_number v count steps }
 {
-    let number = meaning::number(meaning::decision_in(v)) as u64;
-    number + 256 * count + 16777216 * meaning::code(v) as u64 + 4294967296 * steps
+    let number = u64::from(meaning::number(meaning::decision_in(v)));
+    number + COUNT * count + CODE * u64::from(meaning::code(v)) + STEPS * steps
 }
 
 // Takes one tick of the state in lent numbers and places: its answer as one number. A refusal leaves all that is lent as it was.
@@ -148,16 +141,14 @@ pub fn bachumoi_tick(
 {
     let state = state_in(numbers, places);
     let ticked = run::tick(programme, request, state, budget, out);
-    let answer = ticked.answer;
-    let after = ticked.state;
-    match answer {
+    match ticked.answer {
         Answer::Refused(why) => record::refusal_number(why),
         Answer::Running => {
-            put_state(after, numbers, places);
+            put_state(ticked.state, numbers, places);
             running(ticked.steps)
         }
         Answer::Finished(v, count) => {
-            put_state(after, numbers, places);
+            put_state(ticked.state, numbers, places);
             finished(v, count, ticked.steps)
         }
     }

@@ -1,4 +1,5 @@
 // The static library of `rig`: its calls under the names and by the calling convention that a C host links.
+// Kept: wrappers, since the C names and calling convention stand here alone, and docs/CONTRACTS.md names the calls of `rig`.
 #![tactic(auto)]
 
 ghost use Rattle.std.specs.Prelude.{◌≡◌, length};

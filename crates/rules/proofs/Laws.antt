@@ -1,28 +1,28 @@
 -- How the parts of a target, of a condition and of a policy begin, and what follows from the first of them. Assumes nothing.
+use Rattle.std.specs.Prelude.{None}
 use mathlib.Core.Path.{◌≡◌, refl, sym, ap, ◌∙◌}
 use mathlib.Core.Bool.{Bool, true, false}
 use mathlib.Core.List.{List, [], ◌∷◌}
 use Prim.Native.Nat.{ℕ, ◌+◌, ◌-◌, ◌≤◌, ◌<◌}
+use Rattle.meaning.specs.Cause.{Cause}
 use native.Mathlib.Omega.{arith}
 use borrow.Author.Tests.{ne_eqb, eqb-true, eqb-false, lt-ltb, le-ltb}
 use lib.Dec.{eqb}
 use Rattle.record.specs.Choose.{if}
+use Rattle.rules.specs.Parts.{truths}
 use Rattle.record.specs.Bytes.{byte_of}
 use Rattle.record.specs.Forest.{Forest, none, node, span_in, forest}
-use Rattle.record.proofs.Forests.{span_pos, span_le, forest_none, forest_step, forest_more}
+use Rattle.record.proofs.Forests.{span_pos, span_le, forest_none, forest_step}
 use Rattle.value.specs.Value.{function_of}
 use Rattle.sums.specs.declared.Status.{Status}
-use Rattle.meaning.specs.Logic.{or_else, and_all, or_all, not_of}
+use Rattle.meaning.specs.Logic.{or_else, and_all, or_all, target_all, not_of}
 use Rattle.meaning.specs.Policy.{compares, weighs, OverRules, rulesDeny, rulesPermit, rulesFirst}
 use Rattle.meaning.specs.Meaning.{Bags, match_of, comparison_of, condition_of, conditions_of, each, conjunction_of, section_of, sections_of, target_of, under, effected, coded, decision_in, cause_in, when_of, rule_of, is_only, verdict_of, over_rules, rule_child, rule_children}
 use Rattle.meaning.specs.Reading.{choice_at, match_at, comparison_at, row_of, children_at, conjunction_at, section_at, target_in, exprs_in, weighs_at, condition_at, condition_from, conditions_in, when_in, effect_of, rule_at, rules_in}
-use Rattle.meaning.specs.declared.Test.{Test}
 use Rattle.meaning.specs.declared.Truth.{Truth}
 use Rattle.meaning.specs.declared.Truth.TheVariants.{True, False, Unknown}
 use Rattle.meaning.specs.declared.Effect.{Effect}
 use Rattle.meaning.specs.declared.Decision.{Decision}
-use Rattle.meaning.specs.declared.Cause.{Cause}
-use Rattle.meaning.specs.declared.Cause.TheVariants.{NoCause}
 use Rattle.meaning.specs.declared.Verdict.{Verdict}
 use Rattle.meaning.specs.declared.Verdict.TheVariants.{NotApplicable, Indeterminate}
 use Rattle.meaning.specs.declared.Algorithm.{Algorithm}
@@ -34,24 +34,19 @@ use Rattle.algorithm.specs.declared.Acc.{Acc}
 use Rattle.algorithm.specs.declared.tally.Tally.{Tally}
 use Rattle.algorithm.proofs.Causes.{tallies, walks, verdict_right, walks_more}
 
--- the truths of the records of a forest, each read with its children
-unfoldable pub truths : {A : Type 0} → (A → Truth) → (ℕ → Forest → A) → Forest → List Truth
-truths f read none = []
-truths f read (node i kids rest) = f (read i kids) ∷ truths f read rest
-
 each_row : {A : Type 0} (f : A → Truth) (read : ℕ → Forest → A) (i : ℕ) (kids rest : Forest)
-    → each f (row_of read i kids rest) ≡ f (read i kids) ∷ truths f read rest
+    → each f (row_of read i kids rest) ≡ f (read i kids) ∷ truths (λ j below. f (read j below)) rest
 unfolding row_of truths
 each_row f read i kids none = refl
 each_row f read i kids (node j below rest) = ap (λ (ts : List Truth). f (read i kids) ∷ ts) (each_row f read j below rest)
 
 -- the children of record i, from `a` on; without one it stands for its own child
 each_child : {A : Type 0} (f : A → Truth) (read : ℕ → Forest → A) (b : List ℕ) (i s : ℕ) {a : ℕ} → 0 < s → a ≡ if (eqb s 1) i (i + 1)
-    → truths f read (forest b a (i + s - a)) ≡ each f (children_at read i (forest b (i + 1) (s - 1)))
+    → truths (λ j below. f (read j below)) (forest b a (i + s - a)) ≡ each f (children_at read i (forest b (i + 1) (s - 1)))
 unfolding children_at truths
 each_child f read b i s {a} h e = go (eqb s 1) refl
   where
-    go : (t : Bool) → eqb s 1 ≡ t → truths f read (forest b a (i + s - a)) ≡ each f (children_at read i (forest b (i + 1) (s - 1)))
+    go : (t : Bool) → eqb s 1 ≡ t → truths (λ j below. f (read j below)) (forest b a (i + s - a)) ≡ each f (children_at read i (forest b (i + 1) (s - 1)))
     go true z =
         let one : s ≡ 1 = eqb-true s 1 z in
         let at : a ≡ i = rw z at e in
@@ -64,75 +59,66 @@ each_child f read b i s {a} h e = go (eqb s 1) refl
         let left : i + s - a ≡ s - 1 = omega arith in
         rw (left, at, forest_step b (i + 1) (s - 1) (omega arith)) (sym (each_row f read (i + 1) _ _))
 
--- the match at a record, whatever stands below it
-unfoldable pub match_read : List ℕ → ℕ → Forest → Test
-match_read b i kids = match_at b i
-
 -- a conjunction, a section: all their children
 module _ (b : List ℕ) (g : Bags) (i s : ℕ) {a : ℕ} (h : 0 < s) (e : a ≡ if (eqb s 1) i (i + 1)) where
-  pub conjunction_all : and_all (truths (match_of g) (match_read b) (forest b a (i + s - a))) ≡ conjunction_of g (conjunction_at b i (forest b (i + 1) (s - 1)))
-  unfolding conjunction_of conjunction_at match_read
+  pub conjunction_all : and_all (truths (λ j below. match_of g (match_at b j)) (forest b a (i + s - a))) ≡ conjunction_of g (conjunction_at b i (forest b (i + 1) (s - 1)))
+  unfolding conjunction_of conjunction_at
   conjunction_all = ap and_all (each_child (match_of g) (λ (j : ℕ) (below : Forest). match_at b j) b i s h e)
 
-  pub section_all : or_all (truths (conjunction_of g) (conjunction_at b) (forest b a (i + s - a))) ≡ section_of g (section_at b i (forest b (i + 1) (s - 1)))
+  pub section_all : or_all (truths (λ j below. conjunction_of g (conjunction_at b j below)) (forest b a (i + s - a))) ≡ section_of g (section_at b i (forest b (i + 1) (s - 1)))
   unfolding section_of section_at
   section_all = ap or_all (each_child (conjunction_of g) (conjunction_at b) b i s h e)
 
 -- no records are left
-module _ (b : List ℕ) (i left : ℕ) (h : left ≤ 0) where
-  pub truths_none : {A : Type 0} (f : A → Truth) (read : ℕ → Forest → A) → truths f read (forest b i left) ≡ []
+module _ {f : Forest} (e : f ≡ none) where
+  pub truths_none : (says : ℕ → Forest → Truth) → truths says f ≡ []
   unfolding truths
-  truths_none f read = rw (forest_none b i left h)
+  truths_none says = rw e
 
-  pub sections_none : (g : Bags) → sections_of g (target_in b (forest b i left)) ≡ []
+  pub sections_none : (b : List ℕ) (g : Bags) → sections_of g (target_in b f) ≡ []
   unfolding sections_of target_in
-  sections_none g = rw (forest_none b i left h)
+  sections_none b g = rw e
 
-  pub conditions_none : (g : Bags) → conditions_of g (conditions_in b (forest b i left)) ≡ []
+  pub conditions_none : (b : List ℕ) (g : Bags) → conditions_of g (conditions_in b f) ≡ []
   unfolding conditions_of conditions_in
-  conditions_none g = rw (forest_none b i left h)
+  conditions_none b g = rw e
 
-  pub when_none : (g : Bags) {w : Truth} → when_of g (when_in b (forest b i left)) ≡ w → True ≡ w
+  pub when_none : (b : List ℕ) (g : Bags) {w : Truth} → when_of g (when_in b f) ≡ w → True ≡ w
   unfolding when_of when_in
-  when_none g p = rw (forest_none b i left h) at p
+  when_none b g p = rw e at p
 
--- record i is next, with the span s
-module _ (b : List ℕ) (i left : ℕ) {s : ℕ} (h : 0 < left) (e : s ≡ span_in b i left) where
-  pub matches_more : (g : Bags) {x : Test} {t : Truth} → x ≡ match_at b i → t ≡ match_of g x
-      → truths (match_of g) (match_read b) (forest b i left) ≡ t ∷ truths (match_of g) (match_read b) (forest b (i + s) (left - s))
-  unfolding truths match_read
-  matches_more g ex et = rw (forest_more b i left h e, et, ex)
+-- record i is next, with `kids` below it
+pub truths_more : (says : ℕ → Forest → Truth) {i : ℕ} {f kids rest : Forest} {t : Truth} → f ≡ node i kids rest → t ≡ says i kids → truths says f ≡ t ∷ truths says rest
+unfolding truths
+truths_more says e et = rw (e, et)
 
-  pub conjunctions_more : (g : Bags) {t : Truth} → t ≡ conjunction_of g (conjunction_at b i (forest b (i + 1) (s - 1)))
-      → truths (conjunction_of g) (conjunction_at b) (forest b i left) ≡ t ∷ truths (conjunction_of g) (conjunction_at b) (forest b (i + s) (left - s))
-  unfolding truths
-  conjunctions_more g et = rw (forest_more b i left h e, et)
-
-  pub conditions_more : (g : Bags) {t : Truth} → t ≡ condition_of g (condition_from b i (forest b (i + 1) (s - 1)))
-      → conditions_of g (conditions_in b (forest b i left)) ≡ t ∷ conditions_of g (conditions_in b (forest b (i + s) (left - s)))
+module _ (b : List ℕ) {i : ℕ} {f kids rest : Forest} (e : f ≡ node i kids rest) (g : Bags) where
+  pub conditions_more : {t : Truth} → t ≡ condition_of g (condition_from b i kids) → conditions_of g (conditions_in b f) ≡ t ∷ conditions_of g (conditions_in b rest)
   unfolding conditions_of conditions_in
-  conditions_more g et = rw (forest_more b i left h e, et)
+  conditions_more et = rw (e, et)
 
   -- with its kind
-  module _ (g : Bags) {k : ℕ} (ek : k ≡ byte_of b i 0) where
-    pub sections_more : {t : Truth} → k ≡ 4 → t ≡ section_of g (section_at b i (forest b (i + 1) (s - 1)))
-        → sections_of g (target_in b (forest b i left)) ≡ t ∷ sections_of g (target_in b (forest b (i + s) (left - s)))
+  module _ {k : ℕ} (ek : k ≡ byte_of b i 0) where
+    pub sections_more : {t : Truth} → k ≡ 4 → t ≡ section_of g (section_at b i kids) → sections_of g (target_in b f) ≡ t ∷ sections_of g (target_in b rest)
     unfolding sections_of target_in
-    sections_more q et = rw (forest_more b i left h e, ← ek, q, et)
+    sections_more q et = rw (e, ← ek, q, et)
 
-    pub when_here : {t w : Truth} → k ≡ 7 → t ≡ condition_of g (condition_from b i (forest b (i + 1) (s - 1)))
-        → when_of g (when_in b (forest b i left)) ≡ w → t ≡ w
+    pub sections_over : (k ≡ 4 → ⊥) → sections_of g (target_in b f) ≡ []
+    unfolding sections_of target_in
+    sections_over q = rw (e, ← ek, ne_eqb k 4 q)
+
+    pub when_here : {t w : Truth} → k ≡ 7 → t ≡ condition_of g (condition_from b i kids) → when_of g (when_in b f) ≡ w → t ≡ w
     unfolding when_of when_in
-    when_here q et p = rw (forest_more b i left h e, ← ek, q, ← et) at p
+    when_here q et p = rw (e, ← ek, q, ← et) at p
 
-    pub when_later : {w : Truth} → (k ≡ 7 → ⊥) → when_of g (when_in b (forest b i left)) ≡ w → when_of g (when_in b (forest b (i + s) (left - s))) ≡ w
+    pub when_later : {w : Truth} → (k ≡ 7 → ⊥) → when_of g (when_in b f) ≡ w → when_of g (when_in b rest) ≡ w
     unfolding when_in
-    when_later q p = rw (forest_more b i left h e, ← ek, ne_eqb k 7 q) at p
+    when_later q p = rw (e, ← ek, ne_eqb k 7 q) at p
 
--- the first record is no section
-pub sections_over : (b : List ℕ) (i left : ℕ) (g : Bags) {k : ℕ} → 0 < left → k ≡ byte_of b i 0 → (k ≡ 4 → ⊥) → sections_of g (target_in b (forest b i left)) ≡ []
-unfolding sections_of target_in
-sections_over b i left g {k} h ek q = rw (forest_step b i left h, ← ek, ne_eqb k 4 q)
+-- no section comes first
+pub no_sections : (b : List ℕ) (g : Bags) (f : Forest) → sections_of g (target_in b f) ≡ [] → True ≡ target_of g (target_in b f)
+unfolding target_of target_all
+no_sections b g f e = rw e
 
 -- a condition by its choice
 module _ (b : List ℕ) (g : Bags) (i s : ℕ) {k : ℕ} (e : k ≡ byte_of b i 1) where
@@ -169,16 +155,15 @@ module _ (b : List ℕ) (g : Bags) (i s : ℕ) {k : ℕ} (e : k ≡ byte_of b i 
       → t ≡ condition_of g (condition_from b i (forest b (i + 1) (s - 1)))
   weighs_two h et = rw (is_weighing_lem h) et
 
-  pub not_none : {t : Truth} → k ≡ 3 → s ≡ 1 → t ≡ comparison_of g (comparison_at b i)
+  pub not_none : {t : Truth} → k ≡ 3 → forest b (i + 1) (s - 1) ≡ none → t ≡ comparison_of g (comparison_at b i)
       → t ≡ condition_of g (condition_from b i (forest b (i + 1) (s - 1)))
   unfolding condition_of condition_at conditions_in
-  not_none q h et = rw (forest_none b (i + 1) (s - 1) (omega arith), ← e, q) et
+  not_none q f et = rw (f, ← e, q) et
 
-  pub not_more : {n : ℕ} {t u : Truth} → k ≡ 3 → 0 < s → (s ≡ 1 → ⊥) → n ≡ span_in b (i + 1) (s - 1)
-      → t ≡ condition_of g (condition_from b (i + 1) (forest b (i + 1 + 1) (n - 1))) → u ≡ not_of t
-      → u ≡ condition_of g (condition_from b i (forest b (i + 1) (s - 1)))
+  pub not_more : {at : ℕ} {kids rest : Forest} {t u : Truth} → k ≡ 3 → forest b (i + 1) (s - 1) ≡ node at kids rest
+      → t ≡ condition_of g (condition_from b at kids) → u ≡ not_of t → u ≡ condition_of g (condition_from b i (forest b (i + 1) (s - 1)))
   unfolding condition_of condition_at conditions_in
-  not_more q z h en et eu = rw (forest_more b (i + 1) (s - 1) (omega arith) en, ← e, q, ← et) eu
+  not_more q f et eu = rw (f, ← e, q, ← et) eu
 
 -- a rule by its target
 module _ (b : List ℕ) (g : Bags) (i : ℕ) (kids : Forest) {x : Truth} (e : x ≡ target_of g (target_in b kids)) where
@@ -200,14 +185,14 @@ unfoldable pub ruled : List ℕ → Bags → Algorithm → Acc → Cause → For
 ruled b g a acc cause rest = verdict_so_far a (walks a (record { acc = acc; cause = cause }) (rule_children g (rules_in b rest)))
 
 pub rules_all : (b : List ℕ) (g : Bags) (f : Forest) (a : Algorithm) {acc : Acc} (r : OverRules) → a ≡ over_rules r → acc ≡ start a
-    → ruled b g a acc NoCause f ≡ verdict_of (over_rules r) (rule_children g (rules_in b f))
+    → ruled b g a acc None f ≡ verdict_of (over_rules r) (rule_children g (rules_in b f))
 unfolding ruled
 rules_all b g f a r er e = rw (e, ← er) (verdict_right a (rule_children g (rules_in b f)))
 
-pub rules_end : (b : List ℕ) (g : Bags) (i left : ℕ) (a : Algorithm) (acc : Acc) (cause : Cause) {d : Decision} {v w : Verdict} → left ≤ 0
-    → d ≡ fold_result a acc → v ≡ coded d cause → ruled b g a acc cause (forest b i left) ≡ w → v ≡ w
+pub rules_end : (b : List ℕ) (g : Bags) {rest : Forest} (a : Algorithm) (acc : Acc) (cause : Cause) {d : Decision} {v w : Verdict} → rest ≡ none
+    → d ≡ fold_result a acc → v ≡ coded d cause → ruled b g a acc cause rest ≡ w → v ≡ w
 unfolding ruled walks rule_children rules_in
-rules_end b g i left a acc cause h ed ev p = rw (ev, ed) (rw (forest_none b i left h) at p)
+rules_end b g a acc cause e ed ev p = rw (ev, ed) (rw e at p)
 
 -- over rules no algorithm is only-one-applicable, so a rule is taken in by its verdict, and the first cause counts
 pub not_only : (a : Algorithm) (r : OverRules) → a ≡ over_rules r → is_only a ≡ false
@@ -224,28 +209,28 @@ takes_rule : (b : List ℕ) (g : Bags) (i : ℕ) (kids : Forest) (a : Algorithm)
 unfolding rule_child rule_at
 takes_rule b g i kids a acc cause o ec ef ev ed en ea ey = rw (o, ea, ey, ed, en, ev, ef, ec)
 
-module _ (b : List ℕ) (g : Bags) (i left : ℕ) (a : Algorithm) (acc : Acc) (cause : Cause) {s kind : ℕ} {w : Verdict}
-    (some : 0 < left) (e : s ≡ span_in b i left) (ek : kind ≡ byte_of b i 0) (p : ruled b g a acc cause (forest b i left) ≡ w) where
-  pub rules_skip : (kind ≡ 3 → ⊥) → ruled b g a acc cause (forest b (i + s) (left - s)) ≡ w
+module _ (b : List ℕ) (g : Bags) {i : ℕ} {all kids rest : Forest} (a : Algorithm) (acc : Acc) (cause : Cause) {kind : ℕ} {w : Verdict}
+    (e : all ≡ node i kids rest) (ek : kind ≡ byte_of b i 0) (p : ruled b g a acc cause all ≡ w) where
+  pub rules_skip : (kind ≡ 3 → ⊥) → ruled b g a acc cause rest ≡ w
   unfolding ruled rules_in
-  rules_skip q = rw (forest_more b i left some e, ← ek, ne_eqb kind 3 q) at p
+  rules_skip q = rw (e, ← ek, ne_eqb kind 3 q) at p
 
   module _ {c : ℕ} {f : Effect} {v : Verdict} {d : Decision} {now : Cause} {x : Acc} {y : Cause} {t : Bool} (q : kind ≡ 3) (o : is_only a ≡ false) (ec : c ≡ byte_of b i 1)
-      (ef : f ≡ effect_of c) (ev : v ≡ rule_of g (rule_at b i (forest b (i + 1) (s - 1)))) (ed : d ≡ decision_in v) (ex : x ≡ absorb a acc f d) (en : now ≡ cause_in v)
+      (ef : f ≡ effect_of c) (ev : v ≡ rule_of g (rule_at b i kids)) (ed : d ≡ decision_in v) (ex : x ≡ absorb a acc f d) (en : now ≡ cause_in v)
       (ey : y ≡ or_else cause now) (et : t ≡ settled a x) where
     next : Tally
     next = record { acc = x; cause = y }
 
-    more : verdict_so_far a (if t next (walks a next (rule_children g (rules_in b (forest b (i + s) (left - s)))))) ≡ w
+    more : verdict_so_far a (if t next (walks a next (rule_children g (rules_in b rest)))) ≡ w
     unfolding ruled rules_in rule_children next
     more =
         rw et
-        (rw (forest_more b i left some e, ← ek, q, walks_more a (record { acc = acc; cause = cause }) _ _ (takes_rule b g i (forest b (i + 1) (s - 1)) a acc cause o ec ef ev ed en ex ey)) at p)
+        (rw (e, ← ek, q, walks_more a (record { acc = acc; cause = cause }) _ _ (takes_rule b g i kids a acc cause o ec ef ev ed en ex ey)) at p)
 
     pub rules_stop : {k : Decision} {r : Verdict} → t ≡ true → k ≡ fold_result a x → r ≡ coded k y → r ≡ w
     unfolding next
     rules_stop z ek er = rw (er, ek) (rw z at more)
 
-    pub rules_turn : t ≡ false → ruled b g a x y (forest b (i + s) (left - s)) ≡ w
+    pub rules_turn : t ≡ false → ruled b g a x y rest ≡ w
     unfolding ruled next
     rules_turn z = rw z at more

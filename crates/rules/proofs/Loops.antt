@@ -1,10 +1,11 @@
 -- Truths joined one after another: what a loop over parts keeps, when it may stop, and how it ends. Assumes nothing.
 use mathlib.Core.Path.{◌≡◌, refl, sym, ◌∙◌}
-use mathlib.Core.Bool.{Bool, true, false, not}
+use mathlib.Core.Bool.{Bool, true, false}
 use mathlib.Core.List.{List, [], ◌∷◌}
 use Rattle.record.specs.Choose.{if}
 use Rattle.sums.specs.declared.Status.{Status}
 use Rattle.meaning.specs.Logic.{is_true, is_false, and_all, or_all, target_all, and_of, or_of, target_and}
+use Rattle.meaning.specs.Meaning.{truth_of}
 use Rattle.meaning.specs.declared.Truth.{Truth}
 use Rattle.meaning.specs.declared.Truth.TheVariants.{True, False, Unknown}
 use Rattle.meaning.proofs.Logic.{and_none, and_cons, and_assoc, and_true, and_false, or_none, or_cons, or_assoc, or_false, or_true, target_none, target_cons, target_assoc, target_true}
@@ -74,7 +75,7 @@ unfoldable pub join_then : Bool → Truth → List Truth → Truth
 join_then true a ts = then and_all and_of a ts
 join_then false a ts = then or_all or_of a ts
 
-pub join_none : (all : Bool) {a : Truth} (ts : List Truth) → a ≡ if all True False → join_then all a ts ≡ if all (and_all ts) (or_all ts)
+pub join_none : (all : Bool) {a : Truth} (ts : List Truth) → a ≡ truth_of all → join_then all a ts ≡ if all (and_all ts) (or_all ts)
 unfolding join_then then
 join_none true ts e = rw e
 join_none false ts e = rw e
@@ -95,16 +96,3 @@ pub join_end : (all : Bool) (a : Truth) {w : Truth} {xs : List Truth} → xs ≡
 unfolding join_then
 join_end true a e p = end ands a e p
 join_end false a e p = end ors a e p
-
--- whether one truth settles it, truth by truth
-pub sure_true : (all : Bool) → not all ≡ if all false true
-sure_true true = refl
-sure_true false = refl
-
-pub sure_false : (all : Bool) → all ≡ if all true false
-sure_false true = refl
-sure_false false = refl
-
-pub sure_never : (all : Bool) → false ≡ if all false false
-sure_never true = refl
-sure_never false = refl

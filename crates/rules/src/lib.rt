@@ -1,15 +1,21 @@
 // Targets, conditions and rules, decided on the records themselves. `s` is a record's span; `count` records from `from` on are a record's children.
+// Kept: places beside the book in place of a walk, since docs/CONTRACTS.md names `target`, `condition` and `rules`, and the others hand on what these get.
 #![tactic(auto)]
 
 ghost use Rattle.std.specs.Prelude.{◌≡◌, ◌+◌, ◌*◌, ◌-◌, ◌^◌, ◌<◌, ◌≤◌, eqb, length};
 ghost use Rattle.record.specs.Bytes.{size};
 ghost use Rattle.record.specs.Choose.{if};
 ghost use Rattle.record.specs.Forest.{forest};
+ghost use Rattle.record.specs.Siblings.{forest_left};
 ghost use Rattle.meaning.specs.Logic.{is_true, is_false, and_of, or_of};
 ghost use Rattle.meaning.specs.Meaning.{conjunction_of, section_of, target_of, comparison_of, condition_of, when_of, rule_of, over_rules, verdict_of, rule_children};
-ghost use Rattle.meaning.specs.Reading.{choice_at, test_at, match_at, comparison_at, conjunction_at, section_at, target_in, condition_from, when_in, effect_of, rule_at, rules_in, rules_by, bags_of};
+ghost use Rattle.meaning.specs.Reading.{choice_at, test_at, match_at, comparison_at, conjunction_at, section_at, target_in, condition_from, when_in, rule_at, rules_in, rules_by, bags_of};
+ghost use Rattle.rules.specs.Parts.{AsksAnywhere, SaysJoined};
 
-use meaning::{Cause, Effect, Test, Truth, Verdict};
+use meaning::{Test, Truth, Verdict};
+use record::choice::{AND, COMPARES, NOT, WEIGHS};
+use record::kind::{CONDITION, RULE, SECTION};
+use record::siblings::Siblings;
 
 // Record i as a test by function f.
 fn test_at(book: &[u8], i: usize, f: usize) -> Test
@@ -29,18 +35,7 @@ pub fn match_at(book: &[u8], i: usize) -> Test
     requires { (i + 1) * size ≤ length book.now }
     ensures { result ≡ match_at book.now i }
 {
-    let choice = record::byte(book, i, 1);
-    test_at(book, i, choice)
-}
-
-// The number of a comparison's function: choice 11 is function 1.
-fn compares_by(choice: usize) -> usize
-    ensures { result ≡ choice - 10 }
-{
-    if choice < 10 {
-        return 0;
-    }
-    choice - 10
+    test_at(book, i, record::byte(book, i, 1))
 }
 
 // The comparison at record i.
@@ -48,8 +43,7 @@ pub fn comparison_at(book: &[u8], i: usize) -> Test
     requires { (i + 1) * size ≤ length book.now }
     ensures { result ≡ comparison_at book.now i }
 {
-    let choice = record::byte(book, i, 1);
-    test_at(book, i, compares_by(choice))
+    test_at(book, i, record::byte(book, i, 1).saturating_sub(COMPARES))
 }
 
 // Where the children of record i begin. Without one it stands for its own child.
@@ -57,10 +51,42 @@ fn children_at(i: usize, s: usize) -> usize
     requires { (0 < s) × (i + s < 2 ^ 64) }
     ensures { (result ≡ if (eqb s 1) i (i + 1)) × (result < i + s) }
 {
-    if s == 1 {
-        return i;
+    if s == 1 { i } else { i + 1 }
+}
+
+// And where `all`, else or: what two parts give.
+// Kept: a bool, here and below, since `layout`'s `Op` lies above this crate.
+fn joined(all: bool, a: Truth, b: Truth) -> Truth
+    ensures { result ≡ if all (and_of a b) (or_of a b) }
+{
+    if all {
+        meaning::and3(a, b)
+    } else {
+        meaning::or3(a, b)
     }
-    i + 1
+}
+
+// And where `all`, else or: whether one part settles it.
+fn is_sure(all: bool, t: Truth) -> bool
+    ensures { result ≡ if all (is_false t) (is_true t) }
+{
+    matches!((all, t), (true, Truth::False) | (false, Truth::True))
+}
+
+// And where `all`, else or, over what `part` says of the records of a walk, up to one that settles it.
+fn join<F: Fn(usize, usize) -> Truth>(all: bool, parts: Siblings, part: F) -> Truth
+    requires { AsksAnywhere F.Fn part parts.book.now }
+    ensures { SaysJoined F.Fn part parts.entry.book.now all (forest_left parts.entry) result }
+{
+    let mut acc = meaning::truth_of(all);
+    for (at, n) in parts {
+        let t = part(at, n);
+        if is_sure(all, t) {
+            return t;
+        }
+        acc = joined(all, acc, t);
+    }
+    acc
 }
 
 // And over the matches of the conjunction at record i.
@@ -68,20 +94,10 @@ fn conjunction(book: &[u8], request: &[u8], i: usize, s: usize) -> Truth
     requires { (0 < s) × ((i + s) * size ≤ length book.now) }
     ensures { result ≡ conjunction_of (bags_of request.now) (conjunction_at book.now i (forest book.now (i + 1) (s - 1))) }
 {
-    let mut at = children_at(i, s);
-    let mut left = i + s - at;
-    let mut acc = Truth::True;
-    while 0 < left {
-        let n = record::span_in(book, at, left);
-        let t = request::matches(request, match_at(book, at));
-        if let Truth::False = t {
-            return Truth::False;
-        }
-        acc = meaning::and3(acc, t);
-        at += n;
-        left -= n;
-    }
-    acc
+    let from = children_at(i, s);
+    join(true, Siblings::new(book, from, i + s - from), |at, _| {
+        request::matches(request, match_at(book, at))
+    })
 }
 
 // Or over the conjunctions of the section at record i.
@@ -89,45 +105,39 @@ fn section(book: &[u8], request: &[u8], i: usize, s: usize) -> Truth
     requires { (0 < s) × ((i + s) * size ≤ length book.now) }
     ensures { result ≡ section_of (bags_of request.now) (section_at book.now i (forest book.now (i + 1) (s - 1))) }
 {
-    let mut at = children_at(i, s);
-    let mut left = i + s - at;
-    let mut acc = Truth::False;
-    while 0 < left {
-        let n = record::span_in(book, at, left);
-        let t = conjunction(book, request, at, n);
-        if let Truth::True = t {
-            return Truth::True;
+    let from = children_at(i, s);
+    join(false, Siblings::new(book, from, i + s - from), |at, n| {
+        conjunction(book, request, at, n)
+    })
+}
+
+// And over the sections that children begin with.
+fn sections(book: &[u8], request: &[u8], from: usize, count: usize) -> Truth
+    requires { (from + count) * size ≤ length book.now }
+    ensures { result ≡ target_of (bags_of request.now) (target_in book.now (forest book.now from count)) }
+{
+    let mut acc = Truth::True;
+    for (i, s) in Siblings::new(book, from, count) {
+        if record::byte(book, i, 0) != SECTION {
+            return acc;
         }
-        acc = meaning::or3(acc, t);
-        at += n;
-        left -= n;
+        acc = meaning::target3(acc, section(book, request, i, s));
+        if let Truth::Unknown(_) = acc {
+            return acc;
+        }
     }
     acc
 }
 
-// The target that children begin with.
+// The target that children begin with. Most rules begin with no section, and that needs no walk.
 pub fn target(book: &[u8], request: &[u8], from: usize, count: usize) -> Truth
     requires { (from + count) * size ≤ length book.now }
     ensures { result ≡ target_of (bags_of request.now) (target_in book.now (forest book.now from count)) }
 {
-    let mut i = from;
-    let mut left = count;
-    let mut acc = Truth::True;
-    while 0 < left {
-        let kind = record::byte(book, i, 0);
-        if kind != 4 {
-            return acc;
-        }
-        let s = record::span_in(book, i, left);
-        let t = section(book, request, i, s);
-        acc = meaning::target3(acc, t);
-        if let Truth::Unknown(_) = acc {
-            return acc;
-        }
-        i += s;
-        left -= s;
+    if count == 0 || record::byte(book, from, 0) != SECTION {
+        return Truth::True;
     }
-    acc
+    sections(book, request, from, count)
 }
 
 // What the request says to the comparison of a literal with an attribute at record i.
@@ -136,37 +146,6 @@ fn compared(book: &[u8], request: &[u8], i: usize) -> Truth
     ensures { result ≡ comparison_of (bags_of request.now) (comparison_at book.now i) }
 {
     request::comparison(request, comparison_at(book, i))
-}
-
-// And where `all`, else or: what no parts give.
-fn joined_none(all: bool) -> Truth
-    ensures { result ≡ if all (Truth.True) (Truth.False) }
-{
-    if all {
-        return Truth::True;
-    }
-    Truth::False
-}
-
-// And where `all`, else or: what two parts give.
-fn joined(all: bool, a: Truth, b: Truth) -> Truth
-    ensures { result ≡ if all (and_of a b) (or_of a b) }
-{
-    if all {
-        return meaning::and3(a, b);
-    }
-    meaning::or3(a, b)
-}
-
-// And where `all`, else or: whether one part settles it.
-fn is_sure(all: bool, t: Truth) -> bool
-    ensures { result ≡ if all (is_false t) (is_true t) }
-{
-    match t {
-        Truth::True => !all,
-        Truth::False => all,
-        Truth::Unknown(_) => false,
-    }
 }
 
 // The comparison at record i, of a choice above 20, of the two values below it; without two it is one of a literal with an attribute.
@@ -182,41 +161,34 @@ fn weighed(book: &[u8], request: &[u8], i: usize, s: usize) -> Truth
     weigh::compared(book, request, i, second, stop)
 }
 
-// The condition at record i: 1 and, 2 or, 3 not, else a comparison, above 20 one of two values. It calls itself on its parts, and the span falls at each call.
+// The condition at record i: and, or, not, else a comparison, above 20 one of two values. It calls itself on its parts, and the span falls at each call.
 pub fn condition(book: &[u8], request: &[u8], i: usize, s: usize) -> Truth
     requires { (0 < s) × ((i + s) * size ≤ length book.now) }
     ensures { result ≡ condition_of (bags_of request.now) (condition_from book.now i (forest book.now (i + 1) (s - 1))) }
 {
     let choice = record::byte(book, i, 1);
-    if 20 < choice {
+    if WEIGHS < choice {
         return weighed(book, request, i, s);
     }
-    if 3 < choice {
+    if choice == 0 || NOT < choice {
         return compared(book, request, i);
     }
-    if choice == 0 {
-        return compared(book, request, i);
+    let mut parts = Siblings::new(book, i + 1, s - 1);
+    if choice == NOT {
+        return match parts.next() {
+            Some((at, n)) => meaning::not3(condition(book, request, at, n)),
+            None => compared(book, request, i),
+        };
     }
-    if choice == 3 {
-        if s == 1 {
-            return compared(book, request, i);
-        }
-        let part = record::span_in(book, i + 1, s - 1);
-        return meaning::not3(condition(book, request, i + 1, part));
-    }
-    let all = choice == 1;
-    let mut at = i + 1;
-    let mut left = s - 1;
-    let mut acc = joined_none(all);
-    while 0 < left {
-        let n = record::span_in(book, at, left);
+    let all = choice == AND;
+    // Kept: `join` would take a closure that calls `condition`, and that closure would have to repeat the clauses of `condition`.
+    let mut acc = meaning::truth_of(all);
+    for (at, n) in parts {
         let t = condition(book, request, at, n);
         if is_sure(all, t) {
             return t;
         }
         acc = joined(all, acc, t);
-        at += n;
-        left -= n;
     }
     acc
 }
@@ -226,28 +198,12 @@ fn when(book: &[u8], request: &[u8], from: usize, count: usize) -> Truth
     requires { (from + count) * size ≤ length book.now }
     ensures { result ≡ when_of (bags_of request.now) (when_in book.now (forest book.now from count)) }
 {
-    let mut i = from;
-    let mut left = count;
-    while 0 < left {
-        let s = record::span_in(book, i, left);
-        let kind = record::byte(book, i, 0);
-        if kind == 7 {
+    for (i, s) in Siblings::new(book, from, count) {
+        if record::byte(book, i, 0) == CONDITION {
             return condition(book, request, i, s);
         }
-        i += s;
-        left -= s;
     }
     Truth::True
-}
-
-// 1 Permit, else Deny.
-fn effect_of(choice: usize) -> Effect
-    ensures { result ≡ effect_of choice }
-{
-    if choice == 1 {
-        return Effect::Permits;
-    }
-    Effect::Denies
 }
 
 // The rule at record i.
@@ -255,36 +211,30 @@ fn rule(book: &[u8], request: &[u8], i: usize, s: usize) -> Verdict
     requires { (0 < s) × ((i + s) * size ≤ length book.now) }
     ensures { result ≡ rule_of (bags_of request.now) (rule_at book.now i (forest book.now (i + 1) (s - 1))) }
 {
-    let t = target(book, request, i + 1, s - 1);
-    match t {
+    match target(book, request, i + 1, s - 1) {
         Truth::False => Verdict::NotApplicable,
         Truth::Unknown(why) => Verdict::Indeterminate(why),
-        Truth::True => {
-            let e = effect_of(record::byte(book, i, 1));
-            meaning::under(when(book, request, i + 1, s - 1), meaning::effected(e))
-        }
+        Truth::True => meaning::under(
+            when(book, request, i + 1, s - 1),
+            meaning::effected(meaning::effect_of(record::byte(book, i, 1))),
+        ),
     }
 }
 
 // What the rules among these children decide.
+// Kept: what the algorithm keeps and the cause in two variables, in place of a `Tally`, for speed (docs/changes/04.md).
 pub fn rules(book: &[u8], request: &[u8], from: usize, count: usize, choice: usize) -> Verdict
     requires { (from + count) * size ≤ length book.now }
     ensures { result ≡ verdict_of (over_rules (rules_by choice)) (rule_children (bags_of request.now) (rules_in book.now (forest book.now from count))) }
 {
     let a = meaning::over_rules(choice);
-    let mut i = from;
-    let mut left = count;
     let mut acc = algorithm::begin(a);
-    let mut cause = Cause::NoCause;
-    while 0 < left {
-        let s = record::span_in(book, i, left);
-        let kind = record::byte(book, i, 0);
-        if kind != 3 {
-            i += s;
-            left -= s;
+    let mut cause = None;
+    for (i, s) in Siblings::new(book, from, count) {
+        if record::byte(book, i, 0) != RULE {
             continue;
         }
-        let e = effect_of(record::byte(book, i, 1));
+        let e = meaning::effect_of(record::byte(book, i, 1));
         let v = rule(book, request, i, s);
         acc = algorithm::take_in(a, acc, e, meaning::decision_in(v));
         // No algorithm over rules is only-one, so the first cause counts.
@@ -292,8 +242,6 @@ pub fn rules(book: &[u8], request: &[u8], from: usize, count: usize, choice: usi
         if algorithm::settles(a, acc) {
             return meaning::coded(algorithm::outcome(a, acc), cause);
         }
-        i += s;
-        left -= s;
     }
     meaning::coded(algorithm::outcome(a, acc), cause)
 }

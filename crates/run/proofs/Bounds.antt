@@ -1,4 +1,5 @@
 -- How large the numbers of a tick are. Assumes nothing.
+use Rattle.std.specs.Prelude.{Err, Ok}
 use Prim.Native.Nat.{ℕ, ◌≤◌}
 use mathlib.Core.Path.{◌≡◌, refl, sym}
 use mathlib.Core.Bool.{Bool, true, false}
@@ -7,12 +8,10 @@ use lib.Dec.{ltb}
 use lib.ListN.{length}
 use native.Mathlib.Omega.{arith}
 use Rattle.record.specs.Choose.{if}
-use Rattle.record.specs.Refusals.{no_room, bad_run}
+use Rattle.record.specs.Refusals.{line_of, no_room, bad_run}
 use Rattle.meaning.specs.Meaning.{Bags}
 use Rattle.meaning.specs.Reading.{bags_of}
-use Rattle.judge.specs.Request.{judge_request_of}
-use Rattle.judge.specs.declared.JudgedRequest.{JudgedRequest}
-use Rattle.judge.specs.declared.JudgedRequest.TheVariants as judged
+use Rattle.judge.specs.Request.{judge_request_of, JudgedRequest}
 use Rattle.judge.proofs.Bounds.{refused_request_small}
 use Rattle.layout.specs.declared.State.{State}
 use Rattle.layout.specs.Layout.{unpack_of, allowed}
@@ -31,7 +30,7 @@ use Rattle.record.specs.Bytes.{most_records}
 abbrev pub Small : State → Answer → Type 0
 Small s Running = allowed s.head ≡ true
 Small s (Finished v count) = (allowed s.head ≡ true) × (count ≤ room_p)
-Small s (Refused r) = r.line ≤ most_records
+Small s (Refused r) = line_of r ≤ most_records
 
 module _ (p : List ℕ) (g : Bags) (s : State) (b : ℕ) (out : List ℕ) where
   abbrev SmallTick : Ticked → Type 0
@@ -64,8 +63,8 @@ unfolding tick_of
 tick_small p q s b out = go (judge_request_of q) refl
   where
     go : (j : JudgedRequest) → judge_request_of q ≡ j → SmallTick p (bags_of q) s b out (judged_tick p (bags_of q) j s b out)
-    go (judged.Refused r) e = let w = refused_request_small q r e in (omega arith, omega (arith, w.line))
-    go (judged.Accepted n) e = admitted_or_not p (bags_of q) s b out (ltb (length out) room_p) (admitted (length p) s.head) refl
+    go (Err r) e = let w = refused_request_small q r e in (omega arith, omega (arith, w.line))
+    go (Ok n) e = admitted_or_not p (bags_of q) s b out (ltb (length out) room_p) (admitted (length p) s.head) refl
 
 pub few_steps : (p q : List ℕ) (s : State) (b : ℕ) (out : List ℕ) {t : Tick} → t ≡ (tick_of p q s b out).tick → t.steps ≤ 8008
 few_steps p q s b out e = rw e (tick_small p q s b out).0

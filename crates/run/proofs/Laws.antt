@@ -1,15 +1,16 @@
 -- One law for each way in which a function of this crate returns, over plain variables. Assumes nothing.
+use Rattle.std.specs.Prelude.{Err, Ok, Option, Some, None}
+use Rattle.std.specs.Bool.{then_some}
 use Prim.Native.Nat.{ℕ, zero, suc, ◌+◌, ◌-◌, ◌<◌, ◌≤◌}
 use mathlib.Core.Path.{◌≡◌, refl, sym, ap, ◌∙◌}
 use mathlib.Core.Bool.{Bool, true, false}
 use mathlib.Core.List.{List, ◌++◌}
 use lib.Dec.{ltb, leb}
-use lib.ListN.{length, take, drop, replicate, length-append, length-take, length-drop}
-use lib.Seq.{take_at, length-take-le}
+use lib.ListN.{length, take, replicate}
 use native.Mathlib.Nat.{sub-zero, zero-add, add-zero, add_assoc}
 use native.Mathlib.Numerals.{add-one}
 use native.Mathlib.Omega.{arith}
-use borrow.Author.Tests.{lt-ltb, le-ltb, le-leb, lt-leb, leb-true}
+use borrow.Author.Tests.{lt-ltb, le-ltb, leb-true}
 use Rattle.record.specs.Choose.{if, both}
 use Rattle.record.specs.Refusals.{no_room, bad_run}
 use Rattle.record.specs.declared.Refusal.{Refusal}
@@ -18,9 +19,7 @@ use Rattle.meaning.specs.Meaning.{Bags}
 use Rattle.meaning.specs.Reading.{bags_of}
 use Rattle.meaning.specs.declared.Verdict.{Verdict}
 use Rattle.meaning.specs.declared.Verdict.TheVariants.{Permit, Deny, NotApplicable, Indeterminate}
-use Rattle.judge.specs.Request.{judge_request_of}
-use Rattle.judge.specs.declared.JudgedRequest.{JudgedRequest}
-use Rattle.judge.specs.declared.JudgedRequest.TheVariants as judged
+use Rattle.judge.specs.Request.{judge_request_of, JudgedRequest}
 use Rattle.layout.specs.declared.Head.{Head}
 use Rattle.layout.specs.declared.State.{State}
 use Rattle.layout.specs.Layout.{unpack_of, pack_of, allowed}
@@ -29,9 +28,8 @@ use Rattle.programme.specs.Step.{may_step, step_of, stepped_of, state_of, seen, 
 use Rattle.layout.proofs.Coding.{ranged, ranged_back}
 use Rattle.run.specs.declared.kinds.Answer.{Answer}
 use Rattle.run.specs.declared.kinds.Answer.TheVariants.{Running, Finished, Refused}
-use Rattle.run.specs.declared.kinds.Ran.{Ran}
 use Rattle.run.specs.declared.kinds.Tick.{Tick}
-use Rattle.run.specs.Run.{go_on, run_of, number_after}
+use Rattle.run.specs.Run.{go_on, run_of, number_after, Ran, Ended}
 use Rattle.run.specs.Tick.{admitted, count_of, first_places, answered, ran_of, tick_of}
 use Rattle.run.proofs.Runs.{runs_stay_allowed}
 use Rattle.layout.specs.Room.{room_p}
@@ -126,39 +124,12 @@ pub stacks_small : (head : ℕ) (h : Head) → h ≡ unpack_of head → h.cut + 
 unfolding unpack_of
 stacks_small head h u = rw u (omega arith)
 
-module _ (n head : ℕ) where
-  pub admit_none : n ≡ 0 → false ≡ admitted n head
-  unfolding admitted
-  admit_none e = rw e refl
-
-  pub admit_long : 8008 < n → false ≡ admitted n head
-  unfolding admitted
-  admit_long e = let z : 0 < n = omega arith in rw (lt-ltb _ _ z, lt-leb _ _ e) refl
-
-  module _ (z : 0 < n) (l : n ≤ 8008) where
-    pub admit_high : 4611686018427387904 ≤ head → false ≡ admitted n head
-    unfolding admitted allowed
-    admit_high e = rw (lt-ltb _ _ z, le-leb _ _ l, le-ltb _ _ e) refl
-
-    module _ (s : head < 4611686018427387904) (h : Head) (u : h ≡ unpack_of head) where
-      pub admit_by : both (leb h.depth 16) (both (leb h.nest 14) (both (leb h.permits room_p) (leb (h.cut + h.denies) room_p))) ≡ admitted n head
-      unfolding admitted allowed
-      admit_by = rw (lt-ltb _ _ z, le-leb _ _ l, lt-ltb _ _ s, u) refl
-
 pub admit_parts : (n head : ℕ) (k : Bool) → k ≡ admitted n head → k ≡ true → (n ≤ 8008) × (allowed head ≡ true)
 unfolding admitted
 admit_parts n head k a e =
     let r = both_parts (ltb 0 n) (both (leb n 8008) (allowed head)) (sym a ∙ e) in
     let w = both_parts (leb n 8008) (allowed head) r.1 in
     (leb-true _ _ w.0, w.1)
-
--- obligations copied first, then zeros
-pub filled : (xs d m out : List ℕ) (n : ℕ) → n ≤ length xs → n ≤ length d → m ≡ take n xs ++ drop n d → out ≡ take n m ++ replicate (length m - n) 0
-    → out ≡ take n xs ++ replicate (length d - n) 0
-filled xs d m out n k l e f =
-    let a : length (take n xs) ≡ n = length-take-le n xs k in
-    let b : length m ≡ length d = ap length e ∙ simp (length-append, length-take, length-drop) (omega arith) in
-    rw (f, b, e, take_at (take n xs) (drop n d) n a) refl
 
 -- what the first number says
 abbrev pub told : Bool → Head → Answer
@@ -171,6 +142,28 @@ module _ (h : Head) where
   pub answer_finished : (n : ℕ) → n ≡ count_by h.found.reg h → h.over ≡ true → Finished h.found.reg n ≡ told h.over h
   answer_finished n c e = rw c (sym (ap (λ (b : Bool). told b h) e))
 
+-- what is left of a lent state that was run
+pub ended_bad : (r : Ran) {x : Option ℕ} {u t : State} {k : ℕ} → r ≡ record { ok = false; state = t; steps = k } → x ≡ None → Ended r x u
+ended_bad r e f = rw (e, f) (refl, λ q. let z : ◌≡◌ {A = ℕ} 0 1 = cc in absurd (omega arith))
+
+pub ended_well : (r : Ran) {u : State} {k : ℕ} → r ≡ record { ok = true; state = u; steps = k } → Ended r (Some k) u
+ended_well r e = rw e (refl, λ q. refl)
+
+none_ended : (b : Bool) (k : ℕ) → None ≡ then_some b k → b ≡ false
+none_ended true k e = let z : ◌≡◌ {A = ℕ} 0 1 = cc in absurd (omega arith)
+none_ended false k e = refl
+
+some_ended : (b : Bool) (n k : ℕ) → Some k ≡ then_some b n → (b ≡ true) × (k ≡ n)
+some_ended true n k e = (refl, cc)
+some_ended false n k e = let z : ◌≡◌ {A = ℕ} 0 1 = cc in absurd (omega arith)
+
+module _ (r : Ran) {x : Option ℕ} {u : State} (w : Ended r x u) where
+  pub ran_bad : x ≡ None → r.ok ≡ false
+  ran_bad e = none_ended r.ok r.steps (sym e ∙ w.0)
+
+  pub ran_well : {k : ℕ} → x ≡ Some k → (r.ok ≡ true) × (k ≡ r.steps) × (u ≡ r.state)
+  ran_well {k} e = let y = some_ended r.ok r.steps k (sym e ∙ w.0) in (y.0, y.1, w.1 y.0)
+
 -- a tick
 abbrev pub refusal : Refusal → State → Tick
 refusal why s = record { state = s; steps = 0; answer = Refused why }
@@ -180,40 +173,41 @@ module _ (p q : List ℕ) (s : State) (b : ℕ) (out : List ℕ) where
   TickIs t o = (t ≡ (tick_of p q s b out).tick) × (o ≡ (tick_of p q s b out).out)
 
   module _ (j : JudgedRequest) (a : j ≡ judge_request_of q) where
-    pub tick_request : (why : Refusal) (t : Tick) → j ≡ judged.Refused why → t ≡ refusal why s → TickIs t out
+    pub tick_request : (why : Refusal) (t : Tick) → j ≡ Err why → t ≡ refusal why s → TickIs t out
     unfolding tick_of
     tick_request why t e f = (rw (f, ← a, e) refl, rw (← a, e) refl)
 
-    module _ (n : ℕ) (e : j ≡ judged.Accepted n) where
-      pub tick_short : (why : Refusal) (t : Tick) → length out < room_p → why ≡ no_room → t ≡ refusal why s → TickIs t out
+    module _ (n : ℕ) (e : j ≡ Ok n) where
+      pub tick_short : (t : Tick) → length out < room_p → t ≡ refusal no_room s → TickIs t out
       unfolding tick_of
-      tick_short why t l w f = (rw (f, w, ← a, e, lt-ltb _ _ l) refl, rw (← a, e, lt-ltb _ _ l) refl)
+      tick_short t l f = (rw (f, ← a, e, lt-ltb _ _ l) refl, rw (← a, e, lt-ltb _ _ l) refl)
 
       module _ (long : room_p ≤ length out) (k : Bool) (m : k ≡ admitted (length p) s.head) where
-        pub tick_refused : (why : Refusal) (t : Tick) → k ≡ false → why ≡ bad_run → t ≡ refusal why s → TickIs t out
+        pub tick_refused : (t : Tick) → k ≡ false → t ≡ refusal bad_run s → TickIs t out
         unfolding tick_of
-        tick_refused why t z w f = (rw (f, w, ← a, e, le-ltb _ _ long, ← m, z) refl, rw (← a, e, le-ltb _ _ long, ← m, z) refl)
+        tick_refused t z f = (rw (f, ← a, e, le-ltb _ _ long, ← m, z) refl, rw (← a, e, le-ltb _ _ long, ← m, z) refl)
 
         pub tick_ran : (r : Ran) → k ≡ true → r ≡ run_of p (bags_of q) b s → tick_of p q s b out ≡ ran_of r.ok r s out
         unfolding tick_of
         tick_ran r z ran = rw (← a, e, le-ltb _ _ long, ← m, z, ran) refl
 
   module _ (r : Ran) (ran : tick_of p q s b out ≡ ran_of r.ok r s out) where
-    pub tick_bad : (why : Refusal) (t : Tick) → r.ok ≡ false → why ≡ bad_run → t ≡ refusal why s → TickIs t out
+    pub tick_bad : (t : Tick) → r.ok ≡ false → t ≡ refusal bad_run s → TickIs t out
     unfolding ran_of
-    tick_bad why t z w f = (rw (f, w, ran, z) refl, rw (ran, z) refl)
+    tick_bad t z f = (rw (f, ran, z) refl, rw (ran, z) refl)
 
-    module _ (ok : r.ok ≡ true) (h : Head) (u : h ≡ unpack_of r.state.head) (y : Answer) (d : y ≡ told h.over h) (o : List ℕ) where
-      ended : (z : Bool) → h.over ≡ z → tick_of p q s b out ≡ answered z r.state r.steps out
+    module _ (ok : r.ok ≡ true) {k : ℕ} {end : State} (taken : k ≡ r.steps) (led : end ≡ r.state) (h : Head) (u : h ≡ unpack_of end.head)
+        (y : Answer) (d : y ≡ told h.over h) (o : List ℕ) where
+      ended : (z : Bool) → h.over ≡ z → tick_of p q s b out ≡ answered z end k out
       unfolding ran_of is_over
-      ended z over = ran ∙ rw ok (ap (λ (v : Bool). answered v r.state r.steps out) (rw u at over))
+      ended z over = ran ∙ rw (ok, ← led, ← taken) (ap (λ (v : Bool). answered v end k out) (rw u at over))
 
-      pub tick_running : h.over ≡ false → o ≡ out → TickIs (record { state = r.state; steps = r.steps; answer = y }) o
+      pub tick_running : h.over ≡ false → o ≡ out → TickIs (record { state = end; steps = k; answer = y }) o
       unfolding answered
       tick_running z f = (rw (d ∙ sym (answer_running h z), ended false z) refl, rw (f, ended false z) refl)
 
-      pub tick_finished : (x : ℕ) → x ≡ count_by h.found.reg h → h.over ≡ true → o ≡ take x r.state.places ++ replicate (length out - x) 0
-          → TickIs (record { state = r.state; steps = r.steps; answer = y }) o
+      pub tick_finished : (x : ℕ) → x ≡ count_by h.found.reg h → h.over ≡ true → o ≡ take x end.places ++ replicate (length out - x) 0
+          → TickIs (record { state = end; steps = k; answer = y }) o
       unfolding answered count_of first_places
       tick_finished x c z f = (rw (d ∙ sym (answer_finished h x c z), ended true z, c, u) refl, rw (f, ended true z, c, u) refl)
 

@@ -12,9 +12,8 @@ use Rattle.layout.specs.declared.State.{State}
 use Rattle.layout.specs.Layout.{unpack_of, allowed}
 use Rattle.programme.specs.Step.{may_step, step_of, is_over}
 use Rattle.programme.proofs.Forward.{still_allowed, further_on}
-use Rattle.run.specs.Run.{stay, one_more, go_on, run_of}
+use Rattle.run.specs.Run.{stay, one_more, go_on, run_of, Ran}
 use Rattle.run.specs.Runs.{and_then, RunsAdd, NoMoreThanEntries, TheSmaller, FinishedStays, RunsStayAllowed}
-use Rattle.run.specs.declared.kinds.Ran.{Ran}
 
 pub finished_stays : FinishedStays
 unfolding run_of

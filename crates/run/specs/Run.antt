@@ -1,11 +1,17 @@
 -- A run, in single steps. Assumes nothing.
-use Rattle.std.specs.Prelude.{ℕ, zero, suc, ◌+◌, Bool, true, false, List}
+use Rattle.std.specs.Prelude.{ℕ, zero, suc, ◌+◌, ◌≡◌, Bool, true, false, List, Option}
 use Rattle.meaning.specs.Meaning.{Bags}
 use Rattle.layout.specs.declared.Head.{Head}
 use Rattle.layout.specs.declared.State.{State}
 use Rattle.layout.specs.Layout.{pack_of}
 use Rattle.programme.specs.Step.{may_step, step_of, is_over}
-use Rattle.run.specs.declared.kinds.Ran.{Ran}
+use Rattle.std.specs.Bool.{then_some}
+
+-- what a run leads to: whether each step that it would take met entries in their layout, the state, and the steps taken
+pub record Ran : Type 0 where
+  pub ok : Bool
+  pub state : State
+  pub steps : ℕ
 
 -- a run of at most so many steps: no further than a finished state, and not ok where a step that it would take meets entries outside their layout
 abbrev pub stay : Bool → State → Ran
@@ -28,3 +34,7 @@ run_of p g (suc n) s = go_on (is_over s) (may_step p s) s (run_of p g n (step_of
 abbrev pub number_after : ℕ → ℕ → Head → ℕ
 number_after zero start h = start
 number_after (suc k) start h = pack_of h
+
+-- a function that has run a lent state gives the steps, and leaves the state; nothing is said of that where a step met entries outside their layout
+abbrev pub Ended : Ran → Option ℕ → State → Type 0
+Ended r steps s = (steps ≡ then_some r.ok r.steps) × (r.ok ≡ true → s ≡ r.state)

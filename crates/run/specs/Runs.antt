@@ -4,8 +4,7 @@ use Rattle.meaning.specs.Meaning.{Bags}
 use Rattle.layout.specs.declared.State.{State}
 use Rattle.layout.specs.Layout.{allowed}
 use Rattle.programme.specs.Step.{is_over}
-use Rattle.run.specs.Run.{run_of, stay}
-use Rattle.run.specs.declared.kinds.Ran.{Ran}
+use Rattle.run.specs.Run.{run_of, stay, Ran}
 
 -- go on from a run's end with b more, unless a step met entries outside their layout
 abbrev pub and_then : List ℕ → Bags → Bool → Ran → ℕ → Ran

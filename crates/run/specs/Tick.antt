@@ -1,19 +1,16 @@
 -- A tick: document 01, "The programme and its ticks". Assumes nothing.
-use Rattle.std.specs.Prelude.{ℕ, ◌-◌, Bool, true, false, List, ◌++◌, ltb, leb, length, take, replicate}
+use Rattle.std.specs.Prelude.{ℕ, ◌-◌, Bool, true, false, List, ◌++◌, ltb, leb, length, take, replicate, Err, Ok}
 use Rattle.record.specs.Choose.{if, both}
 use Rattle.record.specs.Refusals.{no_room, bad_run}
 use Rattle.record.specs.declared.Refusal.{Refusal}
 use Rattle.meaning.specs.Meaning.{Bags}
 use Rattle.meaning.specs.Reading.{bags_of}
-use Rattle.judge.specs.Request.{judge_request_of}
-use Rattle.judge.specs.declared.JudgedRequest.{JudgedRequest}
-use Rattle.judge.specs.declared.JudgedRequest.TheVariants as judged
+use Rattle.judge.specs.Request.{judge_request_of, JudgedRequest}
 use Rattle.layout.specs.declared.State.{State}
 use Rattle.layout.specs.Layout.{unpack_of, allowed}
 use Rattle.programme.specs.Step.{is_over, count_by}
 use Rattle.run.specs.declared.kinds.Answer.TheVariants.{Running, Finished, Refused}
-use Rattle.run.specs.declared.kinds.Ran.{Ran}
-use Rattle.run.specs.Run.{run_of}
+use Rattle.run.specs.Run.{run_of, Ran}
 use Rattle.run.specs.declared.kinds.Tick.{Tick}
 use Rattle.layout.specs.Room.{room_p}
 
@@ -50,8 +47,8 @@ ran_of false r s out = refused bad_run s out
 
 -- a tick judges request, output, programme and state
 abbrev pub judged_tick : List ℕ → Bags → JudgedRequest → State → ℕ → List ℕ → Ticked
-judged_tick p g (judged.Refused r) s budget out = refused r s out
-judged_tick p g (judged.Accepted n) s budget out =
+judged_tick p g (Err r) s budget out = refused r s out
+judged_tick p g (Ok n) s budget out =
     if (ltb (length out) room_p) (refused no_room s out)
     (if (admitted (length p) s.head) (ran_of (run_of p g budget s).ok (run_of p g budget s) s out)
     (refused bad_run s out))

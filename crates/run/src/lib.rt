@@ -1,4 +1,5 @@
 // Runs and ticks of a programme.
+// Kept: `as` between usize and u64, since there is no `From` between them.
 #![tactic(auto)]
 
 // The types stand apart, since a tick is both what is done and what it gives.
@@ -8,19 +9,12 @@ pub mod kinds {
     use record::Refusal;
 
     // The answer says running, or finished, with which decision and code and how many obligations, or why the tick was refused.
+    // Kept: three states, as document 01 tells running and finished and a tick may be refused; promises' `first_number_says` speaks of the answer.
     #[derive(Clone, Copy)]
     pub enum Answer {
         Running,
         Finished(Verdict, u64),
         Refused(Refusal),
-    }
-
-    // Whether each step that the run would take met entries in their layout, the state that it led to, and the steps taken.
-    #[derive(Clone, Copy)]
-    pub struct Ran {
-        pub ok: bool,
-        pub state: State,
-        pub steps: u64,
     }
 
     // The state after a tick, the steps that it took, and its answer.
@@ -37,39 +31,36 @@ ghost use Rattle.record.specs.Choose.{if};
 ghost use Rattle.meaning.specs.Reading.{bags_of};
 ghost use Rattle.layout.specs.Layout.{allowed};
 ghost use Rattle.layout.specs.Ranges.{Held};
-ghost use Rattle.programme.specs.Step.{count_by, fresh_of, state_of};
-ghost use Rattle.run.specs.Run.{run_of, number_after};
+ghost use Rattle.programme.specs.Step.{count_by, fresh_of};
+ghost use Rattle.run.specs.Run.{run_of, number_after, Ended};
 ghost use Rattle.run.specs.Tick.{admitted, tick_of};
 ghost use Rattle.run.specs.declared.kinds.Answer.TheVariants.{Running, Finished, Refused};
 ghost use Rattle.layout.specs.Room.{room_p};
 
-use judge::JudgedRequest;
-use kinds::{Answer, Ran, Tick};
-use layout::{Head, PLACES, State};
+use kinds::{Answer, Tick};
+use layout::{FRAMES, Head, LEVELS, PLACES, State};
 use meaning::Verdict;
 use record::Refusal;
 
 // The most entries of a programme.
 const MOST: usize = 8008;
 
-// The state before the first step: all is zero, but a section without a conjunction is False (2^57).
+// The first number of each state is below this.
+const HEADS: u64 = 4611686018427387904;
+
+// The first number before the first step: all is zero, but a section without a conjunction is False.
+const FRESH: u64 = 144115188075855872;
+
+// The state before the first step.
 pub fn fresh() -> State
     ensures { result ≡ fresh_of }
 {
     State {
-        head: 144115188075855872,
-        frames: [0; 17],
-        levels: [0; 15],
+        head: FRESH,
+        frames: [0; FRAMES],
+        levels: [0; LEVELS],
         places: [0; PLACES],
     }
-}
-
-// How a run ended, apart from the arrays: whether each step could be taken, the first number, and the steps taken.
-#[derive(Clone, Copy)]
-struct Ended {
-    ok: bool,
-    head: u64,
-    steps: u64,
 }
 
 // The first number after so many steps. Before the first it is the one given: the register may stand there as 5 to 7, which would be put together as 4.
@@ -83,115 +74,58 @@ fn number(steps: u64, start: u64, h: Head) -> u64
     layout::pack(h)
 }
 
-// At most so many steps, with the arrays of the state lent. The first number is taken apart once, and put together at the end.
-fn run_in(
-    programme: &[u64],
-    request: &[u8],
-    start: u64,
-    budget: u64,
-    frames: &mut [u64; 17],
-    levels: &mut [u64; 15],
-    places: &mut [u16; PLACES],
-) -> Ended
-    requires { (length programme.now ≤ 8008) × (allowed start ≡ true) }
-    ensures { run_of programme.now (bags_of request.now) budget (state_of start frames.old levels.old places.old)
-        ≡ record { ok = result.ok; state = state_of result.head frames.new levels.new places.new; steps = result.steps } }
+// At most so many steps of the lent state: how many were taken, or none where one would meet entries outside their layout. The first number is
+// taken apart once, and put together at the end.
+// Kept: a while, since it stops where the run is over, and the count of steps is its result.
+fn run(programme: &[u64], request: &[u8], state: &mut State, budget: u64) -> Option<u64>
+    requires { (length programme.now ≤ 8008) × (allowed state.old.head ≡ true) }
+    ensures { Ended (run_of programme.now (bags_of request.now) budget state.old) result state.new }
 {
-    let mut h = layout::unpack(start);
+    let mut h = layout::unpack(state.head);
     let mut steps: u64 = 0;
-    while steps < budget {
-        if h.over {
-            return Ended {
-                ok: true,
-                head: number(steps, start, h),
-                steps,
-            };
-        }
-        let went = programme::step_in(programme, request, h, frames, levels, places);
-        if !went.ok {
-            return Ended {
-                ok: false,
-                head: number(steps, start, h),
-                steps,
-            };
-        }
-        h = went.head;
+    while steps < budget && !h.over {
+        h = programme::step_in(
+            programme,
+            request,
+            h,
+            &mut state.frames,
+            &mut state.levels,
+            &mut state.places,
+        )?;
         steps += 1;
     }
-    Ended {
-        ok: true,
-        head: number(steps, start, h),
-        steps,
-    }
+    state.head = number(steps, state.head, h);
+    Some(steps)
 }
 
-// At most so many steps. The arrays are copied once, lent to each step, and put together at the end.
-fn run(programme: &[u64], request: &[u8], state: State, budget: u64) -> Ran
-    requires { (length programme.now ≤ 8008) × (allowed state.head ≡ true) }
-    ensures { result ≡ run_of programme.now (bags_of request.now) budget state }
-{
-    let mut frames = state.frames;
-    let mut levels = state.levels;
-    let mut places = state.places;
-    let ended = run_in(
-        programme,
-        request,
-        state.head,
-        budget,
-        &mut frames,
-        &mut levels,
-        &mut places,
-    );
-    let end = State {
-        head: ended.head,
-        frames,
-        levels,
-        places,
-    };
-    Ran {
-        ok: ended.ok,
-        state: end,
-        steps: ended.steps,
-    }
-}
+// The highest places of a frame and of a level.
+const TOP_FRAME: u64 = FRAMES as u64 - 1;
+
+const TOP_LEVEL: u64 = LEVELS as u64 - 1;
 
 // Whether the programme has an entry and not over 8,008, and the layout allows the first number (below 2^62, and four fields in their ranges).
+#[tactic(auto, unfolding(crate::specs::Tick::admitted, layout::specs::Layout::allowed))]
 fn admits(long: usize, head: u64) -> bool
     ensures { result ≡ admitted long head }
 {
-    if long == 0 {
-        return false;
-    }
-    if MOST < long {
-        return false;
-    }
-    if 4611686018427387904 <= head {
-        return false;
-    }
     let h = layout::unpack(head);
-    if 16 < h.depth {
-        return false;
-    }
-    if 14 < h.nest {
-        return false;
-    }
-    if (PLACES as u64) < h.permits {
-        return false;
-    }
-    h.cut + h.denies <= PLACES as u64
+    0 < long
+        && long <= MOST
+        && head < HEADS
+        && h.depth <= TOP_FRAME
+        && h.nest <= TOP_LEVEL
+        && h.permits <= PLACES as u64
+        && h.cut + h.denies <= PLACES as u64
 }
 
 // How many obligations a finished run has.
 fn count(h: Head) -> u64
     ensures { result ≡ count_by h.found.reg h }
 {
-    let found = h.found;
-    let reg = found.reg;
-    match reg {
+    match h.found.reg {
         Verdict::Permit => h.permits,
         Verdict::Deny => h.denies,
-        Verdict::NotApplicable => 0,
-        Verdict::Indeterminate(_) => 0,
+        Verdict::NotApplicable | Verdict::Indeterminate(_) => 0,
     }
 }
 
@@ -202,9 +136,7 @@ fn answer(h: Head) -> Answer
     if !h.over {
         return Answer::Running;
     }
-    let found = h.found;
-    let verdict = found.reg;
-    Answer::Finished(verdict, count(h))
+    Answer::Finished(h.found.reg, count(h))
 }
 
 // The obligations first, and zero in every other place.
@@ -213,8 +145,8 @@ fn fill(places: &[u16; PLACES], count: u64, out: &mut [u16])
     ensures { out.new ≡ take count places.now ++ replicate (length out.old - count) 0 }
 {
     let n = count as usize;
-    lent::copy(places, n, out);
-    lent::clear(out, n);
+    out[..n].copy_from_slice(&places[..n]);
+    out[n..].fill(0);
 }
 
 // A refused tick returns the state that it was given, and 0 steps.
@@ -233,28 +165,27 @@ pub fn tick(programme: &[u64], request: &[u8], state: State, budget: u64, out: &
     ensures { (result ≡ (tick_of programme.now request.now state budget out.old).tick)
         × (out.new ≡ (tick_of programme.now request.now state budget out.old).out) }
 {
-    if let JudgedRequest::Refused(why) = judge::judge_request(request) {
+    if let Err(why) = judge::judge_request(request) {
         return refused(why, state);
     }
     if out.len() < PLACES {
-        return refused(record::no_room(), state);
+        return refused(Refusal::NoRoom, state);
     }
     if !admits(programme.len(), state.head) {
-        return refused(record::bad_run(), state);
+        return refused(Refusal::BadRun, state);
     }
-    let ran = run(programme, request, state, budget);
-    if !ran.ok {
-        let outside = record::bad_run();
+    let mut end = state;
+    let Some(taken) = run(programme, request, &mut end, budget) else {
+        let outside = Refusal::BadRun;
         return refused(outside, state);
-    }
-    let end = ran.state;
+    };
     let h = layout::unpack(end.head);
     if h.over {
         fill(&end.places, count(h), out);
     }
     Tick {
         state: end,
-        steps: ran.steps,
+        steps: taken,
         answer: answer(h),
     }
 }

@@ -1,4 +1,6 @@
 -- What stands first in the lent outputs: the lines of replacements and of a refusal, and the text of a mended book. Assumes nothing.
+use Rattle.std.specs.Prelude.{Ok}
+use Rattle.std.specs.Result.{result_unwrap_or}
 use mathlib.Core.Path.{◌≡◌, refl, sym, ap, ◌∙◌}
 use mathlib.Core.List.{List, [], ◌∷◌, ◌++◌}
 use Prim.Native.Nat.{ℕ, suc, ◌+◌, ◌-◌, ◌*◌, ◌/◌, ◌%◌, ◌≤◌, ◌<◌}
@@ -12,18 +14,14 @@ use Rattle.record.specs.Table.{tab}
 use Rattle.record.specs.declared.Refusal.{Refusal}
 use Rattle.record.proofs.Stored.{stored_then, stored_one, stored_none, stored_first}
 use Rattle.record.proofs.Table.{length_tab}
-use Rattle.text.specs.Text.{book, line_length, read_of, byte_at, write_of, text_at, output_after}
+use Rattle.text.specs.Text.{book, line_length, read_of, byte_at, write_of, text_at, output_after, Filled}
 use Rattle.text.specs.Wrong.{zeroed}
-use Rattle.text.specs.declared.Filled.{Filled}
-use Rattle.text.specs.declared.Filled.TheVariants.{Places, Refused}
 use Rattle.text.proofs.Accepted.{filled_first}
 use Rattle.line.specs.Line.{hex_of, refusal_line, places_of, put}
 use Rattle.line.proofs.Laws.{length_hex, length_refusal, put_found, places_fits}
 use Rattle.structure.specs.Subtrees.{Subtrees, record_count, bytes_of}
 use Rattle.mending.specs.Mending.{Replacement, Mended, salvage_of}
-use Rattle.mending.specs.Salvaged.{answer_of, bytes_of_all, records_in, replaced_in, leaves, mended_out, replaced_out}
-use Rattle.mending.specs.declared.Salvaged.{Salvaged}
-use Rattle.mending.specs.declared.Salvaged.TheVariants as salvaged
+use Rattle.mending.specs.Salvaged.{answer_of, bytes_of_all, records_in, replaced_in, leaves, mended_out, replaced_out, Salvaged, mended_with}
 use Rattle.mending.proofs.Kept.{mended_is_kept}
 use Rattle.mending.proofs.Caller.{Told, told_other, told_line, told_mended, told, not_mended, same_counts}
 use Rattle.mending.proofs.Mending.{bytes_long}
@@ -71,7 +69,7 @@ refusal_first r l {n = n} h p q =
 -- as many records as a book may have are written, and their text stands first
 module _ (records out : List ℕ) (n : ℕ) {a : Filled} (some : 1 ≤ n) (few : n ≤ most_records) (long : n * size ≤ length records)
     (room : line_length size * most_records ≤ length out) (write : a ≡ write_of book (take (n * size) records) (length out)) where
-  written : a ≡ Places (line_length size * n)
+  written : a ≡ Ok (line_length size * n)
   unfolding write_of
   written =
       let r : List ℕ = take (n * size) records in
@@ -80,21 +78,19 @@ module _ (records out : List ℕ) (n : ℕ) {a : Filled} (some : 1 ≤ n) (few :
       write
       ∙ rw (count, ne_eqb (length r) 0 (omega arith), le-ltb 0 (length r % size) (omega arith), le-ltb most_records n few, le-ltb (length out) (line_length size * n) (omega arith)) refl
 
-  pub never_refused : (x : Refusal) → a ≡ Refused x → ⊥
-  never_refused x e = let z : ◌≡◌ {A = ℕ} 0 1 = cc written in omega arith
-
-  pub text_first : (m : ℕ) {later : List ℕ} → later ≡ output_after (text_at (take (n * size) records)) a out → a ≡ Places m
+  pub text_first : {m : ℕ} {later : List ℕ} → later ≡ output_after (text_at (take (n * size) records)) a out → m ≡ result_unwrap_or a 0
       → First m later (tab (text_at (take (n * size) records)) (line_length size * n))
-  text_first m left e =
+  text_first {m} left p =
       let f : ℕ → ℕ = text_at (take (n * size) records) in
-      let q : m ≡ line_length size * n = cc written in
+      let q : m ≡ line_length size * n = rw written at p in
+      let e : a ≡ Ok m = written ∙ ap Ok (sym q) in
       rw (← q) (first m (length_tab f m) (filled_first f out m left e))
 
 -- what salvage leaves in the lent outputs where it mends a book: the k records of x, and the m replacements xs
 pub record Leaves (b o p l q : List ℕ) (k m : ℕ) : Type 0 where
   pub x : Subtrees
   pub xs : List Replacement
-  pub answer : answer_of b (length o) (length p) ≡ salvaged.Mended k m
+  pub answer : answer_of b (length o) (length p) ≡ mended_with k m
   pub is : salvage_of b (length b / size) ≡ Mended x xs
   pub some : 1 ≤ k
   pub few : k ≤ most_records
@@ -104,12 +100,12 @@ pub record Leaves (b o p l q : List ℕ) (k m : ℕ) : Type 0 where
   pub replaced : q ≡ bytes_of_all xs ++ drop (length (bytes_of_all xs)) p
 
 module _ (b o p : List ℕ) (k m : ℕ) {a : Salvaged} {l q : List ℕ} (answered : a ≡ answer_of b (length o) (length p))
-    (left : l ≡ mended_out b a o) (says : q ≡ replaced_out b a p) (done : a ≡ salvaged.Mended k m) where
+    (left : l ≡ mended_out b a o) (says : q ≡ replaced_out b a p) (done : a ≡ mended_with k m) where
   pub was_mended : Leaves b o p l q k m
   unfolding mended_out replaced_out records_in replaced_in leaves
   was_mended = go (told b (length o) (length p))
     where
-      answer : answer_of b (length o) (length p) ≡ salvaged.Mended k m
+      answer : answer_of b (length o) (length p) ≡ mended_with k m
       answer = sym answered ∙ done
 
       go : Told b (length b / size) (answer_of b (length o) (length p)) → Leaves b o p l q k m
@@ -205,5 +201,5 @@ module _ (s records : List ℕ) {a : Filled} {t : List ℕ} (long : length recor
   unfolding said
   read_by_lem e = rw (← zeros, ← long) (ap (read_by t) (sym read ∙ e))
 
-  pub text_read : (m : ℕ) {later : List ℕ} → later ≡ output_after (byte_at t) a records → a ≡ Places m → said s ≡ said_of (take m later)
+  pub text_read : (m : ℕ) {later : List ℕ} → later ≡ output_after (byte_at t) a records → a ≡ Ok m → said s ≡ said_of (take m later)
   text_read m left e = read_by_lem e ∙ ap said_of (sym (filled_first (byte_at t) records m left e))

@@ -1,4 +1,5 @@
 -- A refusal writes no file, and everything else has one: `specs/Salvage.antt`'s claim. Assumes nothing.
+use Rattle.std.specs.Prelude.{Err, Ok}
 use mathlib.Core.Path.{refl, ap}
 use mathlib.Core.List.{List}
 use Prim.Native.Nat.{ℕ, ◌*◌, ◌/◌}
@@ -8,10 +9,8 @@ use Rattle.record.specs.Bytes.{size, most_records}
 use Rattle.record.specs.Refusals.{spoilt}
 use Rattle.record.specs.Table.{tab}
 use Rattle.record.proofs.Table.{length_tab}
-use Rattle.text.specs.Text.{book, line_length, read_of, byte_at, text_at}
+use Rattle.text.specs.Text.{book, line_length, read_of, byte_at, text_at, Filled}
 use Rattle.text.specs.Wrong.{zeroed}
-use Rattle.text.specs.declared.Filled.{Filled}
-use Rattle.text.specs.declared.Filled.TheVariants.{Places, Refused}
 use Rattle.structure.specs.Subtrees.{record_count}
 use Rattle.mending.specs.Mending.{salvage_of}
 use Rattle.mending.specs.Salvaged.{answer_of, records_in}
@@ -37,5 +36,5 @@ unfolding said
 writes_or_refuses text = go (read_of book (zeroed text) (size * most_records))
   where
     go : (a : Filled) → Says (read_by (zeroed text) a)
-    go (Places m) = of_records (tab (byte_at (zeroed text)) m)
-    go (Refused r) = refusing r refl
+    go (Ok m) = of_records (tab (byte_at (zeroed text)) m)
+    go (Err r) = refusing r refl

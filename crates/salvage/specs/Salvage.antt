@@ -1,17 +1,13 @@
 -- What `salvage` makes of the text that it read: the text of MENDED.HEX, and what it prints. Assumes nothing.
-use Rattle.std.specs.Prelude.{ℕ, ◌+◌, ◌*◌, ◌/◌, ◌<◌, ◌≡◌, List, [], ◌∷◌, ◌++◌, length, take}
+use Rattle.std.specs.Prelude.{ℕ, ◌+◌, ◌*◌, ◌/◌, ◌<◌, ◌≡◌, List, [], ◌∷◌, ◌++◌, length, take, Err, Ok}
 use Rattle.record.specs.Bytes.{size, most_records}
 use Rattle.record.specs.Table.{tab}
 use Rattle.record.specs.declared.Refusal.{Refusal}
-use Rattle.text.specs.Text.{book, lf, line_length, read_of, byte_at, text_at}
+use Rattle.text.specs.Text.{book, lf, line_length, read_of, byte_at, text_at, Filled}
 use Rattle.text.specs.Wrong.{zeroed}
-use Rattle.text.specs.declared.Filled.{Filled}
-use Rattle.text.specs.declared.Filled.TheVariants.{Places, Refused}
 use Rattle.line.specs.Line.{hex_of, refusal_line}
 use Rattle.mending.specs.Mending.{Replacement, Salvage, Mended, Spoilt, salvage_of}
-use Rattle.mending.specs.Salvaged.{answer_of, records_in}
-use Rattle.mending.specs.declared.Salvaged.{Salvaged}
-use Rattle.mending.specs.declared.Salvaged.TheVariants as salvaged
+use Rattle.mending.specs.Salvaged.{answer_of, records_in, Salvaged, mended_with}
 
 -- a line a replacement: its first old line and its old count, four digits each
 unfoldable pub lines_of : List Replacement → List ℕ
@@ -34,10 +30,10 @@ replaced_by (Spoilt line) = []
 
 -- by the records, and what salvage answers
 abbrev pub said_by : List ℕ → Salvaged → Said
-said_by b (salvaged.Mended n m) =
+said_by b (Ok m) =
     let s = salvage_of b (length b / size) in
-    record { file = tab (text_at (records_in s)) (line_length size * n); printed = lines_of (replaced_by s) }
-said_by b (salvaged.Refused r) = refuses (refusal_line r)
+    record { file = tab (text_at (records_in s)) (line_length size * m.records); printed = lines_of (replaced_by s) }
+said_by b (Err r) = refuses (refusal_line r)
 
 -- there is room for a whole book, and for as many replacements as it can have
 unfoldable pub said_of : List ℕ → Said
@@ -45,8 +41,8 @@ said_of b = said_by b (answer_of b (size * most_records) (2 * most_records))
 
 -- by the text, and what reading it answers once each line with a wrong digit is a line of zeros
 abbrev pub read_by : List ℕ → Filled → Said
-read_by text (Places m) = said_of (tab (byte_at text) m)
-read_by text (Refused r) = refuses (refusal_line r)
+read_by text (Ok m) = said_of (tab (byte_at text) m)
+read_by text (Err r) = refuses (refusal_line r)
 
 unfoldable pub said : List ℕ → Said
 said text = read_by (zeroed text) (read_of book (zeroed text) (size * most_records))

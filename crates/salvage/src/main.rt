@@ -10,10 +10,8 @@ ghost use Rattle.line.specs.Line.{refusal_line};
 ghost use Rattle.salvage.specs.Salvage.{lines_of, said_of, said};
 ghost use Rattle.salvage.specs.Places.{replacements_at, First};
 
-use mending::Salvaged;
 use record::Refusal;
 use std::io;
-use text::Filled;
 
 // The bytes of a replacement's line: eight digits and LF.
 const LINE: usize = 9;
@@ -22,6 +20,7 @@ const LINE: usize = 9;
 const PRINTED: usize = LINE * record::MOST_RECORDS / 2;
 
 // How many bytes the file has, and how many are printed.
+// Kept: 0 for no file, as the definition `said` has an empty text there.
 #[derive(Clone, Copy)]
 struct Lengths {
     file: usize,
@@ -33,14 +32,12 @@ fn put_lines(replaced: &[u8], m: usize, out: &mut [u8]) -> usize
     requires { (m * 4 ≤ length replaced.now) × (m * 9 ≤ length out.old) }
     ensures { (result ≡ m * 9) × (out.new ≡ stored out.old 0 (lines_of (replacements_at replaced.now 0 m))) }
 {
-    let mut i: usize = 0;
-    while i < m {
+    for i in 0..m {
         let at = i * LINE;
-        let from = i * mending::REPLACEMENT;
-        line::four_digits(out, at, record::big2(replaced, from) as usize);
-        line::four_digits(out, at + 4, record::big2(replaced, from + 2) as usize);
+        let place = i * mending::REPLACEMENT;
+        line::four_digits(out, at, usize::from(record::big2(replaced, place)));
+        line::four_digits(out, at + 4, usize::from(record::big2(replaced, place + 2)));
         out[at + 8] = text::LF;
-        i += 1;
     }
     m * LINE
 }
@@ -51,10 +48,7 @@ fn put_text(records: &[u8], n: usize, out: &mut [u8]) -> usize
     ensures { First result out.new (tab (text_at (take (n * size) records.now)) (line_length size * n)) }
 {
     let bytes = n * record::SIZE;
-    match text::write_book(&records[..bytes], out) {
-        Filled::Places(long) => long,
-        Filled::Refused(_) => 0,
-    }
+    text::write_book(&records[..bytes], out).unwrap_or(0)
 }
 
 // Puts the line of a refusal first into `out`: no file is written.
@@ -80,18 +74,15 @@ fn mend(
     ensures { (First result.file out.new (said_of book.now).file) × (First result.printed printed.new (said_of book.now).printed) }
 {
     match mending::salvage(book, mended, replaced) {
-        Salvaged::Mended {
-            records,
-            replacements,
-        } => {
-            let file = put_text(mended, records, out);
-            let lines = put_lines(replaced, replacements, printed);
+        Ok(counts) => {
+            let file = put_text(mended, counts.records, out);
+            let lines = put_lines(replaced, counts.replacements, printed);
             Lengths {
                 file,
                 printed: lines,
             }
         }
-        Salvaged::Refused(refusal) => refused(refusal, printed),
+        Err(refusal) => refused(refusal, printed),
     }
 }
 
@@ -109,8 +100,8 @@ fn salvaged(
 {
     text::zero_wrong(text);
     match text::read_book(text, records) {
-        Filled::Places(m) => mend(&records[..m], mended, replaced, out, printed),
-        Filled::Refused(refusal) => refused(refusal, printed),
+        Ok(m) => mend(&records[..m], mended, replaced, out, printed),
+        Err(refusal) => refused(refusal, printed),
     }
 }
 
@@ -131,12 +122,8 @@ fn main(rt: HostRuntime) -> io::Result<()> {
         &mut out,
         &mut printed,
     );
-    let long = lengths.file;
-    if 0 < long {
-        if !file::write_mended_file(&rt, &out[..long]) {
-            return Ok(());
-        }
+    if 0 < lengths.file && !file::write_mended_file(&rt, &out[..lengths.file]) {
+        return Ok(());
     }
-    let lines = lengths.printed;
-    rt.write_all(&printed[..lines])
+    rt.write_all(&printed[..lengths.printed])
 }

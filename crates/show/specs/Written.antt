@@ -1,5 +1,5 @@
 -- A line that is being written. Assumes nothing.
-use Rattle.std.specs.Prelude.{ℕ, ◌≤◌, List, length}
+use Rattle.std.specs.Prelude.{ℕ, List}
 use Rattle.outline.specs.Outline.{Says}
 use Rattle.show.specs.declared.lines.Line.{Line}
 
@@ -7,10 +7,6 @@ use Rattle.show.specs.declared.lines.Line.{Line}
 abbrev pub width : ℕ
 width = 256
 
--- what is said stands inside the line
-abbrev pub Inside : Line → Type 0
-Inside l = l.said ≤ length l.bytes
-
 -- a line with xs said after what l says, as far as there is room
 abbrev pub Adds : Line → List ℕ → Line → Type 0
-Adds l xs r = Says l.bytes l.said xs r.bytes r.said × Inside r
+Adds l xs r = Says l.bytes l.said xs r.bytes r.said

@@ -1,212 +1,129 @@
-// What is wrong with a refused record: the field rule that it breaks, or how it breaks the place rule that the refusal's number says. A fault is the
-// number of its phrase, so that the prover walks one call for all of them.
-ghost use Rattle.std.specs.Prelude.{◌≡◌, ◌+◌, ◌*◌, ◌≤◌, length};
+// What is wrong with a refused record: the field rule that it breaks, or how it breaks the place rule that the refusal's number says.
+ghost use Rattle.std.specs.Prelude.{◌≡◌, ◌+◌, ◌*◌, ◌≤◌, length, Option};
 ghost use Rattle.record.specs.Bytes.{size};
 ghost use Rattle.fields.specs.declared.Kind.TheVariants.{Match, Literal};
-ghost use Rattle.show.specs.Fault.{kind_fault, plain_fault, category_fault, section_fault, value_fault, compares_fault, literal_value_fault, literal_fault, attribute_value_fault, attribute_fault, field_fault, condition_fault, child_fault, operands_fault, has_operands, place_fault, fault_of};
-ghost use Rattle.show.specs.Written.{Inside};
+ghost use Rattle.show.specs.Fault.{kind_fault, plain_fault, category_fault, section_fault, value_fault, compares_fault, literal_value_fault, literal_fault, attribute_value_fault, attribute_fault, field_fault, condition_fault, child_fault, obligation_fault, operands_fault, has_operands, place_fault, fault_of};
 
-use crate::lines::Line;
+use crate::fault::Fault;
 use crate::nesting::parent;
-use crate::numbers::choose;
 use fields::{Kind, Sort};
-
-// Field rules: kind, choice, span; category, type, value, function; bytes that a plain record, a section, an obligation does not use.
-const NO_KIND: usize = 1;
-
-const NO_CHOICE: usize = 2;
-
-const NO_SPAN: usize = 3;
-
-const NOTHING_BELOW: usize = 4;
-
-const SOMETHING_BELOW: usize = 5;
-
-const NO_CATEGORY: usize = 6;
-
-const NO_TYPE: usize = 7;
-
-const NOT_FINITE: usize = 8;
-
-const NAME_ORDERED: usize = 9;
-
-const PLAIN_BYTE: usize = 10;
-
-const SECTION_BYTE: usize = 11;
-
-const OBLIGATION_BYTE: usize = 12;
-
-// Place rules: of line 1; of any other, past the parent's end, not taken by it, not at that place below it, too deep.
-const NO_TOP: usize = 13;
-
-const NOT_ALL: usize = 14;
-
-const PAST_END: usize = 15;
-
-const NOT_TAKEN: usize = 16;
-
-const LATE_SECTION: usize = 17;
-
-const OTHER_CATEGORY: usize = 18;
-
-const SECOND_IN_RULE: usize = 19;
-
-const SECOND_IN_NOT: usize = 20;
-
-const AFTER_OBLIGATION: usize = 21;
-
-const TOO_DEEP: usize = 22;
-
-// Values: the type of a literal, bytes that a literal or an attribute does not use, the operands of an operator and of a comparison.
-const LITERAL_TYPE: usize = 23;
-
-const LITERAL_BYTE: usize = 24;
-
-const ATTRIBUTE_BYTE: usize = 25;
-
-const OTHER_OPERANDS: usize = 26;
-
-const OTHER_PAIR: usize = 27;
-
-// A byte behind the issuer of a match or comparison.
-const TEST_BYTE: usize = 28;
-
-// A fault in words: the phrases stand in the order of the numbers above.
-pub fn fault_words(fault: usize, l: Line) -> Line
-    ensures { Inside result }
-{
-    l.phrase(
-        b"|byte 0 is no kind, 1 to 8 or 10\
-          |byte 1 is no choice of its kind\
-          |its span, bytes 2 and 3, is 0\
-          |its span is below 2, and something must stand below it\
-          |its span is not 1, and nothing stands below it\
-          |byte 4 is no category, 1 to 4\
-          |byte 5 is no type, 1 to 3, or 129 to 131\
-          |its double is not finite\
-          |a name is compared by equal alone\
-          |a byte that its kind does not use, of 4 to 19, is not zero\
-          |a byte that its kind does not use, of 5 to 19, is not zero\
-          |a byte that its kind does not use, of 4, 5 and 8 to 19, is not zero\
-          |line 1 is no policy set and no policy\
-          |its span is not the number of records\
-          |it runs past its parent's end\
-          |its parent takes no record of its kind\
-          |sections stand first, and their categories rise\
-          |a match has the category of its section\
-          |a rule has at most one condition\
-          |not has exactly one condition below it\
-          |obligations stand last\
-          |it is nested deeper than 16\
-          |byte 5 is no type, 1 to 3\
-          |a byte that its kind does not use, of 4, 6, 7 and 16 to 19, is not zero\
-          |a byte that its kind does not use, of 8 to 15, 18 and 19, is not zero\
-          |an operator has exactly two values of its type below it\
-          |exactly two values of one type are compared, names by equal alone\
-          |a byte behind its issuer, 18 or 19, is not zero",
-        fault,
-    )
-}
+use record::kind::{CONDITION, CONJUNCTION, POLICY, RULE, SET};
 
 // The fault of kind k and its choice, which are in no row of the table.
-fn kind_fault(k: usize) -> usize
+#[tactic(auto, unfolding(crate::specs::Fault::kind_fault))]
+fn kind_fault(k: usize) -> Fault
     ensures { result ≡ kind_fault k }
 {
-    if k == 10 {
-        return NO_CHOICE;
+    match k {
+        1..=8 | 10 => Fault::NoChoice,
+        _ => Fault::NoKind,
     }
-    if k < 1 {
-        return NO_KIND;
-    }
-    choose(k <= 8, NO_CHOICE, NO_KIND)
 }
 
 // .. of a record that uses no byte but kind, choice and span, the span being at least s.
-fn plain_fault(span: usize, s: usize) -> usize
+#[tactic(auto, unfolding(crate::specs::Fault::plain_fault))]
+fn plain_fault(span: usize, s: usize) -> Fault
     ensures { result ≡ plain_fault span s }
 {
     if span == 0 {
-        return NO_SPAN;
+        return Fault::NoSpan;
     }
-    choose(span < s, NOTHING_BELOW, PLAIN_BYTE)
+    if span < s {
+        Fault::NothingBelow
+    } else {
+        Fault::PlainByte
+    }
 }
 
 // .. of category c; where there is such a category, another fault.
-fn category_fault(c: usize, other: usize) -> usize
+#[tactic(auto, unfolding(crate::specs::Fault::category_fault))]
+fn category_fault(c: usize, other: Option<Fault>) -> Option<Fault>
     ensures { result ≡ category_fault c other }
 {
-    if c < 1 {
-        return NO_CATEGORY;
+    if (1..=4).contains(&c) {
+        return other;
     }
-    choose(c <= 4, other, NO_CATEGORY)
+    Some(Fault::NoCategory)
 }
 
 // .. of a section.
-fn section_fault(span: usize, category: usize) -> usize
+#[tactic(auto, unfolding(crate::specs::Fault::section_fault))]
+fn section_fault(span: usize, category: usize) -> Option<Fault>
     ensures { result ≡ section_fault span category }
 {
-    category_fault(category, choose(span < 2, NOTHING_BELOW, SECTION_BYTE))
+    let inside = if span < 2 {
+        Fault::NothingBelow
+    } else {
+        Fault::SectionByte
+    };
+    category_fault(category, Some(inside))
 }
 
 // .. of the value of a match or comparison, by its type; an integer has none.
-fn value_fault(t: Sort) -> usize
+fn value_fault(t: Sort) -> Option<Fault>
     ensures { result ≡ value_fault t }
 {
     match t {
-        Sort::Integer => 0,
-        Sort::Name => NAME_ORDERED,
-        Sort::Double => NOT_FINITE,
-        Sort::Other => NO_TYPE,
+        Sort::Integer => None,
+        Sort::Name => Some(Fault::NameOrdered),
+        Sort::Double => Some(Fault::NotFinite),
+        Sort::Other => Some(Fault::NoType),
     }
 }
 
 // .. of a match or comparison; `unused` is 0 where the bytes behind its issuer are.
-fn compares_fault(span: usize, category: usize, t: Sort, unused: usize) -> usize
+#[tactic(auto, unfolding(crate::specs::Fault::compares_fault))]
+fn compares_fault(span: usize, category: usize, t: Sort, unused: usize) -> Option<Fault>
     ensures { result ≡ compares_fault span category t unused }
 {
-    let inside = choose(unused == 0, value_fault(t), TEST_BYTE);
-    category_fault(category, choose(span == 1, inside, SOMETHING_BELOW))
+    let inside = match (span, unused) {
+        (1, 0) => value_fault(t),
+        (1, _) => Some(Fault::TestByte),
+        _ => Some(Fault::SomethingBelow),
+    };
+    category_fault(category, inside)
 }
 
 // .. of record i, a match or comparison.
-fn test_at(book: &[u8], i: usize) -> usize
+fn test_at(book: &[u8], i: usize) -> Option<Fault>
     requires { (i + 1) * size ≤ length book.now }
     ensures { result ≡ field_fault book.now i Match }
 {
-    let unused = record::big2(book, i * record::SIZE + 18) as usize;
+    let unused = record::big2(book, i * record::SIZE + 18);
     let t = fields::type_at(book, i);
     let category = record::byte(book, i, 4);
-    compares_fault(record::span(book, i), category, t, unused)
+    compares_fault(record::span(book, i), category, t, usize::from(unused))
 }
 
-// .. of a literal, by its type.
-fn literal_value_fault(t: Sort) -> usize
+// .. of a literal, by its type: an integer or a name has no other fault.
+fn literal_value_fault(t: Sort) -> Option<Fault>
     ensures { result ≡ literal_value_fault t }
 {
     match t {
-        Sort::Integer => 0,
-        Sort::Name => 0,
-        Sort::Double => NOT_FINITE,
-        Sort::Other => LITERAL_TYPE,
+        Sort::Integer | Sort::Name => None,
+        Sort::Double => Some(Fault::NotFinite),
+        Sort::Other => Some(Fault::LiteralType),
     }
 }
 
 // .. of a literal; `unused` is 0 where the bytes that it does not use are.
-fn literal_fault(span: usize, unused: usize, t: Sort) -> usize
+#[tactic(auto, unfolding(crate::specs::Fault::literal_fault))]
+fn literal_fault(span: usize, unused: usize, t: Sort) -> Option<Fault>
     ensures { result ≡ literal_fault span unused t }
 {
-    if span != 1 {
-        return SOMETHING_BELOW;
+    match (span, unused) {
+        (1, 0) => literal_value_fault(t),
+        (1, _) => Some(Fault::LiteralByte),
+        _ => Some(Fault::SomethingBelow),
     }
-    choose(unused == 0, literal_value_fault(t), LITERAL_BYTE)
 }
 
 // .. of record i, a literal.
-fn literal_at(book: &[u8], i: usize) -> usize
+fn literal_at(book: &[u8], i: usize) -> Option<Fault>
     requires { (i + 1) * size ≤ length book.now }
     ensures { result ≡ field_fault book.now i Literal }
 {
-    let rest = record::big2(book, i * record::SIZE + 6) as usize;
+    let rest = usize::from(record::big2(book, i * record::SIZE + 6));
     let issuer = record::big4(book, i * record::SIZE + 16) as usize;
     let unused = record::byte(book, i, 4) + rest + issuer;
     let t = fields::type_of(record::byte(book, i, 5));
@@ -214,29 +131,42 @@ fn literal_at(book: &[u8], i: usize) -> usize
 }
 
 // .. of an attribute, by its type.
-fn attribute_value_fault(t: Sort) -> usize
+fn attribute_value_fault(t: Sort) -> Fault
     ensures { result ≡ attribute_value_fault t }
 {
     match t {
-        Sort::Integer => ATTRIBUTE_BYTE,
-        Sort::Name => ATTRIBUTE_BYTE,
-        Sort::Double => ATTRIBUTE_BYTE,
-        Sort::Other => NO_TYPE,
+        Sort::Integer | Sort::Name | Sort::Double => Fault::AttributeByte,
+        Sort::Other => Fault::NoType,
     }
 }
 
 // .. of an attribute.
-fn attribute_fault(span: usize, category: usize, t: Sort) -> usize
+#[tactic(auto, unfolding(crate::specs::Fault::attribute_fault))]
+fn attribute_fault(span: usize, category: usize, t: Sort) -> Option<Fault>
     ensures { result ≡ attribute_fault span category t }
 {
-    category_fault(
-        category,
-        choose(span == 1, attribute_value_fault(t), SOMETHING_BELOW),
-    )
+    let inside = if span == 1 {
+        attribute_value_fault(t)
+    } else {
+        Fault::SomethingBelow
+    };
+    category_fault(category, Some(inside))
+}
+
+// .. of an obligation.
+#[tactic(auto, unfolding(crate::specs::Fault::obligation_fault))]
+fn obligation_fault(span: usize) -> Fault
+    ensures { result ≡ obligation_fault span }
+{
+    if span == 1 {
+        Fault::ObligationByte
+    } else {
+        Fault::SomethingBelow
+    }
 }
 
 // .. of record i of kind k, which breaks a field rule.
-fn field_fault(book: &[u8], i: usize, k: Kind) -> usize
+fn field_fault(book: &[u8], i: usize, k: Kind) -> Option<Fault>
     requires { (i + 1) * size ≤ length book.now }
     ensures { result ≡ field_fault book.now i k }
 {
@@ -244,82 +174,65 @@ fn field_fault(book: &[u8], i: usize, k: Kind) -> usize
     let category = record::byte(book, i, 4);
     let t = fields::type_at(book, i);
     match k {
-        Kind::PolicySet => plain_fault(span, 1),
-        Kind::Policy => plain_fault(span, 1),
-        Kind::Rule => plain_fault(span, 1),
+        Kind::PolicySet
+        | Kind::Policy
+        | Kind::Rule
+        | Kind::Logic
+        | Kind::Weighing
+        | Kind::Operator => Some(plain_fault(span, 1)),
+        Kind::Conjunction | Kind::Not => Some(plain_fault(span, 2)),
         Kind::Section => section_fault(span, category),
-        Kind::Conjunction => plain_fault(span, 2),
-        Kind::Match => test_at(book, i),
-        Kind::Logic => plain_fault(span, 1),
-        Kind::Not => plain_fault(span, 2),
-        Kind::Comparison => test_at(book, i),
-        Kind::Weighing => plain_fault(span, 1),
-        Kind::Obligation => choose(span == 1, OBLIGATION_BYTE, SOMETHING_BELOW),
+        Kind::Match | Kind::Comparison => test_at(book, i),
+        Kind::Obligation => Some(obligation_fault(span)),
         Kind::Literal => literal_at(book, i),
         Kind::Attribute => attribute_fault(span, category, t),
-        Kind::Operator => plain_fault(span, 1),
-        Kind::Nothing => kind_fault(record::byte(book, i, 0)),
+        Kind::Nothing => Some(kind_fault(record::byte(book, i, 0))),
     }
-}
-
-// .. of a condition that may not stand below a parent whose kind is p.
-fn condition_fault(p: usize) -> usize
-    ensures { result ≡ condition_fault p }
-{
-    if p == 3 {
-        return SECOND_IN_RULE;
-    }
-    choose(p == 7, SECOND_IN_NOT, NOT_TAKEN)
 }
 
 // .. of a record that may not stand below a parent whose kind is p: the parent takes no such record, or takes it at another place.
-fn child_fault(p: usize, k: Kind) -> usize
+#[tactic(auto, unfolding(crate::specs::Fault::condition_fault))]
+fn child_fault(p: usize, k: Kind) -> Fault
     ensures { result ≡ child_fault p k }
 {
-    match k {
-        Kind::PolicySet => choose(p == 1, AFTER_OBLIGATION, NOT_TAKEN),
-        Kind::Policy => choose(p == 1, AFTER_OBLIGATION, NOT_TAKEN),
-        Kind::Rule => choose(p == 2, AFTER_OBLIGATION, NOT_TAKEN),
-        Kind::Section => choose(p < 4, LATE_SECTION, NOT_TAKEN),
-        Kind::Conjunction => NOT_TAKEN,
-        Kind::Match => choose(p == 5, OTHER_CATEGORY, NOT_TAKEN),
-        Kind::Logic => condition_fault(p),
-        Kind::Not => condition_fault(p),
-        Kind::Comparison => condition_fault(p),
-        Kind::Weighing => condition_fault(p),
-        Kind::Obligation => NOT_TAKEN,
-        Kind::Literal => NOT_TAKEN,
-        Kind::Attribute => NOT_TAKEN,
-        Kind::Operator => NOT_TAKEN,
-        Kind::Nothing => NOT_TAKEN,
+    match (k, p) {
+        (Kind::PolicySet | Kind::Policy, SET) | (Kind::Rule, POLICY) => { Fault::AfterObligation }
+        (Kind::Section, 0..=RULE) => Fault::LateSection,
+        (Kind::Match, CONJUNCTION) => Fault::OtherCategory,
+        (Kind::Logic | Kind::Not | Kind::Comparison | Kind::Weighing, RULE) => Fault::SecondInRule,
+        (Kind::Logic | Kind::Not | Kind::Comparison | Kind::Weighing, CONDITION) => {
+            Fault::SecondInNot
+        }
+        _ => Fault::NotTaken,
     }
 }
 
 // .. of a record of this kind that has not the operands that it wants.
-fn operands_fault(kind: usize) -> usize
+#[tactic(auto, unfolding(crate::specs::Fault::operands_fault))]
+fn operands_fault(kind: usize) -> Fault
     ensures { result ≡ operands_fault kind }
 {
-    choose(kind == 7, OTHER_PAIR, OTHER_OPERANDS)
+    if kind == CONDITION {
+        Fault::OtherPair
+    } else {
+        Fault::OtherOperands
+    }
 }
 
 // Whether record i has the operands that it wants. They are looked for where all that it covers is there.
+#[tactic(auto, unfolding(crate::specs::Fault::has_operands, operands::specs::Parent::end_of))]
 fn has_operands(book: &[u8], i: usize) -> bool
     requires { (i + 1) * size ≤ length book.now }
     ensures { result ≡ has_operands book.now i }
 {
     let s = record::span(book, i);
-    if s == 0 {
-        return true;
-    }
     let end = i + s;
-    if book.len() < end * record::SIZE {
-        return true;
-    }
-    operands::operands_ok(book, i, end)
+    s == 0 || book.len() < end * record::SIZE || operands::operands_ok(book, i, end)
 }
 
 // The fault of record i, which its parent does not allow at that place, or which has not its operands.
-fn place_fault(book: &[u8], i: usize) -> usize
+#[tactic(auto, unfolding(crate::specs::Fault::place_fault))]
+fn place_fault(book: &[u8], i: usize) -> Fault
     requires { (i + 1) * size ≤ length book.now }
     ensures { result ≡ place_fault book.now i }
 {
@@ -332,21 +245,18 @@ fn place_fault(book: &[u8], i: usize) -> usize
 
 // The fault of record i, by the number that refuses it: 5 is a field rule, 9 is line 1's, 10 is the parent's end, 11 is what the parent allows, or the
 // operands, 12 is the depth.
-pub fn fault(book: &[u8], i: usize, number: u8) -> usize
+// Kept: the number, by which the definition `fault_of` tells the rules; 5 and 9 to 12.
+#[tactic(auto, unfolding(crate::specs::Fault::fault_of))]
+pub fn fault_of(book: &[u8], i: usize, number: u8) -> Option<Fault>
     requires { (i + 1) * size ≤ length book.now }
     ensures { result ≡ fault_of book.now i number }
 {
-    if number == 5 {
-        return field_fault(book, i, fields::kind_at(book, i));
+    match number {
+        5 => field_fault(book, i, fields::kind_at(book, i)),
+        9 if POLICY < record::byte(book, i, 0) => Some(Fault::NoTop),
+        9 => Some(Fault::NotAll),
+        10 => Some(Fault::PastEnd),
+        11 => Some(place_fault(book, i)),
+        _ => Some(Fault::TooDeep),
     }
-    if number == 9 {
-        return choose(2 < record::byte(book, i, 0), NO_TOP, NOT_ALL);
-    }
-    if number == 10 {
-        return PAST_END;
-    }
-    if number == 11 {
-        return place_fault(book, i);
-    }
-    TOO_DEEP
 }

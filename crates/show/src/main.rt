@@ -1,71 +1,65 @@
 // Prints BOOK.HEX as an outline that a person can read: one line a record, indented by its depth. A book that is refused is printed as far as it is
 // sound, and the refused line is marked, with the rule that it breaks.
+// Kept: `as` between usize and u64, since there is no `From` between them.
 #![tactic(auto)]
 
 ghost use Rattle.std.specs.Prelude.{◌≡◌, ◌*◌, ◌≤◌, length};
 ghost use Rattle.record.specs.Bytes.{size};
+ghost use Rattle.record.specs.Refusals.{line_of};
 ghost use Rattle.show.specs.Outline.{lines_before};
 
-use judge::Judged;
 use printing::{print_first, print_refusal, print_refused};
 use record::Refusal;
 use std::io;
-use text::Filled;
 
+mod fault;
 mod faults;
 mod lines;
 mod nesting;
-mod numbers;
 mod phrases;
 mod printing;
 mod records;
 mod refusals;
 
 // The number of the refusal for too many records.
+// Kept: the number, since `lines_before` compares it, and the number of a bad place is its rule's, whatever that is.
 const TOO_MANY: u8 = 2;
 
 // Prints record bytes that are judged.
 fn show_records(rt: &impl Print, book: &[u8]) -> io::Result<()> {
     match judge::judge_book(book) {
-        Judged::Accepted {
-            records: n,
-            obligations: _,
-        } => print_first(rt, book, n),
-        Judged::Refused(refusal) => show_refused(rt, book, refusal),
+        Ok(accepted) => print_first(rt, book, accepted.records),
+        Err(refusal) => show_refused(rt, book, refusal),
     }
 }
 
 // Prints record bytes that are refused.
 fn show_refused(rt: &impl Print, book: &[u8], refusal: Refusal) -> io::Result<()>
-    requires { refusal.line * size ≤ length book.now }
+    requires { line_of refusal * size ≤ length book.now }
 {
-    let line = refusal.line;
-    if line == 0 {
-        return print_refusal(rt, refusal);
+    match refusal.line().checked_sub(1) {
+        Some(i) => print_refused(rt, book, i, refusal.number()),
+        None => print_refusal(rt, refusal),
     }
-    print_refused(rt, book, line - 1, refusal.number)
 }
 
 // The lines before the one at which a text is refused.
+#[tactic(auto, unfolding(crate::specs::Outline::lines_before))]
 fn lines_before(refusal: Refusal) -> usize
     ensures { result ≡ lines_before refusal }
 {
-    let line = refusal.line;
-    if refusal.number == TOO_MANY {
+    if refusal.number() == TOO_MANY {
         return record::MOST_RECORDS;
     }
-    if line == 0 {
-        return 0;
-    }
-    line - 1
+    refusal.line().saturating_sub(1)
 }
 
 // Prints the first n lines of a text, as far as they keep the field rules.
 fn show_lines(rt: &impl Print, text: &[u8], records: &mut [u8], n: usize) -> io::Result<()> {
     let end = text::lines_end(text, n);
     match text::read_book(&text[..end], records) {
-        Filled::Places(m) => show_kept(rt, &records[..m]),
-        Filled::Refused(_) => Ok(()),
+        Ok(m) => show_kept(rt, &records[..m]),
+        Err(_) => Ok(()),
     }
 }
 
@@ -78,8 +72,8 @@ fn show_kept(rt: &impl Print, records: &[u8]) -> io::Result<()> {
 // Prints a text: the records that it says, or why it says none, after the lines before.
 fn show(rt: &impl Print, text: &[u8], records: &mut [u8]) -> io::Result<()> {
     match text::read_book(text, records) {
-        Filled::Places(n) => show_records(rt, &records[..n]),
-        Filled::Refused(refusal) => {
+        Ok(n) => show_records(rt, &records[..n]),
+        Err(refusal) => {
             show_lines(rt, text, records, lines_before(refusal))?;
             print_refusal(rt, refusal)
         }

@@ -3,7 +3,6 @@ ghost use Rattle.std.specs.Prelude.{◌≡◌, ◌+◌, ◌*◌, ◌≤◌, min,
 ghost use Rattle.record.specs.Bytes.{size};
 ghost use Rattle.placement.specs.Place.{most_depth};
 ghost use Rattle.show.specs.Outline.{blanks_of};
-ghost use Rattle.show.specs.Written.{Inside};
 
 use crate::lines::Line;
 use crate::nesting::depth;
@@ -13,61 +12,48 @@ use record::Refusal;
 use std::io;
 
 // The blanks before a line number that is to have four places.
+#[tactic(auto, unfolding(crate::specs::Outline::blanks_of))]
 fn blanks(n: usize) -> usize
     ensures { result ≡ blanks_of n }
 {
-    if n < 10 {
-        return 3;
+    match n {
+        0..10 => 3,
+        10..100 => 2,
+        100..1000 => 1,
+        _ => 0,
     }
-    if n < 100 {
-        return 2;
-    }
-    if n < 1000 {
-        return 1;
-    }
-    0
 }
 
 // The blanks before a record of depth d; levels deeper than a book may have are indented alike.
 fn indent(d: usize) -> usize
     ensures { result ≡ 2 * min most_depth d }
 {
-    if placement::MOST_DEPTH < d {
-        return 2 * placement::MOST_DEPTH;
-    }
-    2 * d
+    2 * placement::MOST_DEPTH.min(d)
 }
 
 // The line of record i, with a mark before it.
 fn line(book: &[u8], i: usize, mark: u8) -> Line
     requires { (i + 1) * size ≤ length book.now }
-    ensures { Inside result }
 {
     let l = Line::empty()
         .put(mark)
         .repeat(b' ', blanks(i + 1))
-        .decimal(i + 1)
+        .decimal((i + 1) as u64)
         .repeat(b' ', indent(depth(book, i)));
     record_words(book, i, l).put(b'\n')
 }
 
 // Prints a line.
-fn send(rt: &impl Print, l: Line) -> io::Result<()>
-    requires { Inside l }
-{
-    let bytes = l.bytes;
-    let n = l.said;
-    rt.write_all(&bytes[..n])
+fn send(rt: &impl Print, l: Line) -> io::Result<()> {
+    rt.write_all(&l.bytes[..l.said])
 }
 
 // Prints the first n records.
 pub fn print_first(rt: &impl Print, book: &[u8], n: usize) -> io::Result<()>
     requires { n * size ≤ length book.now }
 {
-    let mut i: usize = 0;
-    while i < n {
+    for i in 0..n {
         send(rt, line(book, i, b' '))?;
-        i += 1;
     }
     Ok(())
 }

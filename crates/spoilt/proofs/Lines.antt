@@ -4,8 +4,8 @@ use mathlib.Core.Bool.{Bool, true, false}
 use mathlib.Core.List.{List}
 use Prim.Native.Nat.{ℕ, ◌+◌, ◌-◌, ◌≤◌, ◌<◌}
 use native.Mathlib.Omega.{arith}
-use lib.Dec.{eqb}
-use borrow.Author.Tests.{eq-eqb, ne_eqb}
+use lib.Dec.{eqb, ltb, leb}
+use borrow.Author.Tests.{eq-eqb, ne_eqb, lt-ltb, ltb-true, le-leb, leb-true}
 use Rattle.record.specs.Choose.{both}
 use Rattle.record.specs.Bytes.{byte_of, span_of}
 use Rattle.record.specs.Forest.{span_in}
@@ -61,17 +61,18 @@ module _ (b : List ℕ) (i top t : ℕ) {s : ℕ} (l : i < top) (e : s ≡ span_
     unfolding two_of
     two_more h = rw (subtrees_next b i top l e, subtrees_next b (i + s) top m d, subtrees_next b (i + s + n) top h refl) refl
 
-    two_both : top ≤ i + s + n → two_of (subtrees_of b i (top - i)) t ≡ both (eqb (value_type b i) t) (eqb (value_type b (i + s)) t)
-    unfolding two_of
-    two_both h =
-        rw (subtrees_next b i top l e, subtrees_next b (i + s) top m d, subtrees_end b (i + s + n) top h, value_is b i, value_is b (i + s)) refl
+    module _ (h : top ≤ i + s + n) where
+      two_both : two_of (subtrees_of b i (top - i)) t ≡ both (eqb (value_type b i) t) (eqb (value_type b (i + s)) t)
+      unfolding two_of
+      two_both =
+          rw (subtrees_next b i top l e, subtrees_next b (i + s) top m d, subtrees_end b (i + s + n) top h, value_is b i, value_is b (i + s)) refl
 
-    module _ {v : ℕ} (h : top ≤ i + s + n) (ev : v ≡ value_type b i) where
-      pub two_other : (v ≡ t → ⊥) → false ≡ two_of (subtrees_of b i (top - i)) t
-      two_other g = rw (two_both h, ← ev, ne_eqb v t g) refl
+      module _ {j v : ℕ} (ej : j ≡ i) (ev : v ≡ value_type b j) where
+        pub two_other : (v ≡ t → ⊥) → eqb v t ≡ two_of (subtrees_of b i (top - i)) t
+        two_other g = rw (two_both, ← ej, ← ev, ne_eqb v t g) refl
 
-      pub two_same : v ≡ t → {w : ℕ} → w ≡ value_type b (i + s) → eqb w t ≡ two_of (subtrees_of b i (top - i)) t
-      two_same g ew = rw (two_both h, ← ev, eq-eqb v t g, ← ew) refl
+        pub two_same : v ≡ t → {k w : ℕ} → k ≡ i + s → w ≡ value_type b k → eqb w t ≡ two_of (subtrees_of b i (top - i)) t
+        two_same g ek ew = rw (two_both, ← ek, ← ej, ← ev, eq-eqb v t g, ← ew) refl
 
 -- a line that is not bad, by its parts
 pub line_parts : (u : Parent) (e : ℕ) (r : List ℕ) (kids : Subtrees) → line_ok u e r kids ≡ true
@@ -87,11 +88,6 @@ line_but : (u : Parent) (e : ℕ) (r : List ℕ) (kids : Subtrees) → record_ok
 unfolding line_ok
 line_but u e r kids a c = rw (a, c) refl
 
--- its parent's category does not matter
-pub line_any : (d pn gc pc e : ℕ) (r : List ℕ) (kids : Subtrees) → line_ok (parent d pn gc 0) e r kids ≡ line_ok (parent d pn gc pc) e r kids
-unfolding line_ok child_ok
-line_any d pn gc pc e r kids = refl
-
 -- what a line says that is no bad one: the book's facts
 pub record Kept (b : List ℕ) (i top d pn gc pc e : ℕ) : Type 0 where
   pub fields : field_ok b i ≡ true
@@ -105,78 +101,83 @@ refuted : (t : Bool) → (t ≡ true → ⊥) → false ≡ t
 refuted true f = absurd (f refl)
 refuted false f = refl
 
--- the field rules of its kind
-pub field_by : (b : List ℕ) (i : ℕ) {f : Bool} {k : Kind} → k ≡ kind_at b i → f ≡ rules_of b i k → f ≡ field_ok b i
-unfolding field_ok
-field_by b i ek ef = rw (← ek) ef
-
--- one that keeps the field rules ends behind itself
-pub line_ends : (b : List ℕ) (i : ℕ) {f : Bool} {s : ℕ} → f ≡ field_ok b i → f ≡ true → s ≡ span_of b i → i + 1 ≤ i + s
-line_ends b i ef z es = omega (arith, spans.span_pos b i (sym ef ∙ z), es)
-
 -- line i below `top`, as a child of such a parent
-module _ (b : List ℕ) (i top d pn gc e : ℕ) where
+module _ (b : List ℕ) (i top d pn gc pc e : ℕ) where
   abbrev line : Bool
-  line = line_ok (parent d pn gc 0) e (record_at b i) (subtrees_of b (i + 1) (span_in b i (top - i) - 1))
+  line = line_ok (parent d pn gc pc) e (record_at b i) (subtrees_of b (i + 1) (span_in b i (top - i) - 1))
 
   line_heads : line ≡ true → Heads b i (span_in b i (top - i) - 1)
   line_heads h =
       let kids : Subtrees = subtrees_of b (i + 1) (span_in b i (top - i) - 1) in
-      let z = line_parts (parent d pn gc 0) e (record_at b i) kids h in
+      let z = line_parts (parent d pn gc pc) e (record_at b i) kids h in
       rw (count_subtrees b (i + 1) (span_in b i (top - i) - 1)) at
       (heads_same (record_at b i) 0 b i (record_bytes b i) (record_count kids) (record_parts (record_at b i) (record_count kids) z.0).1)
 
-  line_stands : line ≡ true → MayStand (parent d pn gc 0) e b i
+  line_stands : line ≡ true → MayStand (parent d pn gc pc) e b i
   line_stands h =
-      let z = line_parts (parent d pn gc 0) e (record_at b i) (subtrees_of b (i + 1) (span_in b i (top - i) - 1)) h in
-      stand_same (record_at b i) 0 b i (record_bytes b i) (parent d pn gc 0) e (child_parts (parent d pn gc 0) e (record_at b i) z.1)
+      let z = line_parts (parent d pn gc pc) e (record_at b i) (subtrees_of b (i + 1) (span_in b i (top - i) - 1)) h in
+      stand_same (record_at b i) 0 b i (record_bytes b i) (parent d pn gc pc) e (child_parts (parent d pn gc pc) e (record_at b i) z.1)
 
-  -- it breaks a rule: of its fields, of its span, of the depth, of its place
-  pub line_field : {f : Bool} → f ≡ field_ok b i → f ≡ false → false ≡ line
-  line_field ef z = refuted line (λ h. no_false (sym z ∙ ef ∙ (line_heads h).fields))
+  -- its head: what is asked of it beside its operands
+  abbrev head : Kind → Bool
+  head k = both (rules_of b i k) (both (leb (i + span_of b i) top) (both (ltb d most_depth) (stands_ok pn k (byte_of b i 4) e gc)))
 
-  pub line_long : {s : ℕ} → i < top → s ≡ span_of b i → top < i + s → false ≡ line
-  line_long l es o =
-      refuted line (λ h. omega (arith, (line_heads h).span, es, span_pos b i (top - i) (omega arith), span_le b i (top - i)))
+  module _ {k : Kind} (ek : k ≡ kind_at b i) {h : Bool} (eh : h ≡ head k) where
+    head_kept : i < top → line ≡ true → h ≡ true
+    unfolding field_ok
+    head_kept l x =
+        let w = line_heads x in
+        let y = line_stands x in
+        let ends : i + span_of b i ≤ top = omega (arith, w.span, span_pos b i (top - i) (omega arith), span_le b i (top - i)) in
+        eh ∙ rw (ek, w.fields, le-leb (i + span_of b i) top ends, lt-ltb d most_depth y.deep) y.stands
 
-  pub line_deep : most_depth ≤ d → false ≡ line
-  line_deep o = refuted line (λ h. omega (arith, (line_stands h).deep))
+    -- a bad head makes a bad line
+    pub head_bad : i < top → h ≡ false → false ≡ line
+    head_bad l z = refuted line (λ x. no_false (sym z ∙ head_kept l x))
 
-  module _ {k : Kind} {c : ℕ} {t : Bool} (ek : k ≡ kind_at b i) (ec : c ≡ byte_of b i 4) (et : t ≡ stands_ok pn k c e gc) where
-    pub line_misplaced : t ≡ false → false ≡ line
-    line_misplaced z = refuted line (λ h. no_false (sym z ∙ et ∙ rw (ek, ec) (line_stands h).stands))
+    module _ (z : h ≡ true) where
+      head_parts : (field_ok b i ≡ true) × (i + span_of b i ≤ top) × (d < most_depth) × (stands_ok pn (kind_at b i) (byte_of b i 4) e gc ≡ true)
+      unfolding field_ok
+      head_parts =
+          let w = both_parts (rules_of b i k) _ (sym eh ∙ z) in
+          let v = both_parts (leb (i + span_of b i) top) _ w.1 in
+          let u = both_parts (ltb d most_depth) _ v.1 in
+          (rw ek at w.0, leb-true (i + span_of b i) top v.0, ltb-true d most_depth u.0, rw ek at u.1)
 
-    -- it breaks none of these: it wants its operands
-    pub line_operands : {f : Bool} {s a : ℕ} {o : Bool} → f ≡ field_ok b i → f ≡ true → s ≡ span_of b i → i + s ≤ top → d < most_depth → t ≡ true
-        → a ≡ byte_of b i 1 → o ≡ operands_ok k a (first_type (subtrees_of b (i + 1) (i + s - (i + 1)))) (two_of (subtrees_of b (i + 1) (i + s - (i + 1)))) → o ≡ line
-    unfolding operands_in
-    line_operands {s = s} ef x es l deep z ea eo =
-        let fields = sym ef ∙ x in
-        let some = spans.span_pos b i fields in
-        let stated : span_in b i (top - i) ≡ span_of b i = span_stated b i (top - i) some (omega arith) in
-        let below : i + s - (i + 1) ≡ span_of b i - 1 = omega arith in
-        let kids : Subtrees = subtrees_of b (i + 1) (span_of b i - 1) in
-        let back : SameRecord b i (record_at b i) 0 = λ j q. sym (record_bytes b i j q) in
-        let count = count_subtrees b (i + 1) (span_of b i - 1) in
-        let stands : stands_ok pn (kind_at b i) (byte_of b i 4) e gc ≡ true = rw (← ek, ← ec) (sym et ∙ z) in
-        rw (
-          stated,
-          line_but (parent d pn gc 0) e (record_at b i) kids
-              (parts_record (record_at b i) _ (record_length b i) (heads_same b i (record_at b i) 0 back _ (record { fields = fields; span = omega (arith, count) })))
-              (parts_child (parent d pn gc 0) e (record_at b i) (stand_same b i (record_at b i) 0 back (parent d pn gc 0) e (record { stands = stands; deep = deep }))),
-          kind_same (record_at b i) 0 b i (record_but_span b i),
-          choice_byte (record_at b i) 0 b i (record_but_span b i),
-          ← ek,
-          ← ea,
-          ← below,
-        ) eo
+      pub head_ends : (i + 1 ≤ i + span_of b i) × (i + span_of b i ≤ top)
+      head_ends = (omega (arith, spans.span_pos b i head_parts.0), head_parts.1)
+
+      -- one that is not bad wants its operands
+      pub line_operands : {s a : ℕ} {o : Bool} → s ≡ span_of b i
+          → a ≡ byte_of b i 1 → o ≡ operands_ok k a (first_type (subtrees_of b (i + 1) (i + s - (i + 1)))) (two_of (subtrees_of b (i + 1) (i + s - (i + 1)))) → o ≡ line
+      unfolding operands_in
+      line_operands {s = s} es ea eo =
+          let fields = head_parts.0 in
+          let l = head_parts.1 in
+          let some = spans.span_pos b i fields in
+          let stated : span_in b i (top - i) ≡ span_of b i = span_stated b i (top - i) some (omega arith) in
+          let below : i + s - (i + 1) ≡ span_of b i - 1 = omega arith in
+          let kids : Subtrees = subtrees_of b (i + 1) (span_of b i - 1) in
+          let back : SameRecord b i (record_at b i) 0 = λ j q. sym (record_bytes b i j q) in
+          let count = count_subtrees b (i + 1) (span_of b i - 1) in
+          rw (
+            stated,
+            line_but (parent d pn gc pc) e (record_at b i) kids
+                (parts_record (record_at b i) _ (record_length b i) (heads_same b i (record_at b i) 0 back _ (record { fields = fields; span = omega (arith, count) })))
+                (parts_child (parent d pn gc pc) e (record_at b i) (stand_same b i (record_at b i) 0 back (parent d pn gc pc) e (record { stands = head_parts.3; deep = head_parts.2 }))),
+            kind_same (record_at b i) 0 b i (record_but_span b i),
+            choice_byte (record_at b i) 0 b i (record_but_span b i),
+            ← ek,
+            ← ea,
+            ← below,
+          ) eo
 
 -- it breaks none at all
 pub kept : (b : List ℕ) (i top d pn gc pc e : ℕ) {t : Bool} → i < top
-    → t ≡ line_ok (parent d pn gc 0) e (record_at b i) (subtrees_of b (i + 1) (span_in b i (top - i) - 1)) → t ≡ true → Kept b i top d pn gc pc e
+    → t ≡ line_ok (parent d pn gc pc) e (record_at b i) (subtrees_of b (i + 1) (span_in b i (top - i) - 1)) → t ≡ true → Kept b i top d pn gc pc e
 kept b i top d pn gc pc e l et z =
     let h = sym et ∙ z in
-    let w = line_heads b i top d pn gc e h in
+    let w = line_heads b i top d pn gc pc e h in
     let least = span_pos b i (top - i) (omega arith) in
     let most = span_le b i (top - i) in
     let stated : span_in b i (top - i) ≡ span_of b i = omega (arith, w.span) in
@@ -184,6 +185,6 @@ kept b i top d pn gc pc e l et z =
       fields = w.fields;
       some = omega (arith, w.span);
       within = omega arith;
-      deep = (line_stands b i top d pn gc e h).deep;
-      line = sym (line_any d pn gc pc e (record_at b i) (subtrees_of b (i + 1) (span_of b i - 1))) ∙ (rw stated at h);
+      deep = (line_stands b i top d pn gc pc e h).deep;
+      line = rw stated at h;
     }

@@ -4,14 +4,14 @@ use mathlib.Core.Bool.{Bool, true, false}
 use mathlib.Core.List.{List}
 use Prim.Native.Nat.{ℕ, suc, ◌+◌, ◌-◌, ◌≤◌, ◌<◌}
 use native.Mathlib.Omega.{arith}
-use Rattle.record.specs.Choose.{either, among}
+use Rattle.std.specs.Prelude.{Option, None, Some, is_some}
+use Rattle.record.specs.Choose.{both, either, among}
 use Rattle.record.specs.Bytes.{byte_of, span_of}
 use Rattle.record.specs.Forest.{span_in}
-use Rattle.record.proofs.Choose.{no_false, both_true, in_among, above_among}
+use Rattle.record.proofs.Choose.{no_false, both_true}
 use Rattle.record.proofs.Forests.{span_stated}
-use Rattle.fields.specs.Fields.{kind_at, rules_of, field_ok}
+use Rattle.fields.specs.Fields.{kind_at}
 use Rattle.fields.specs.declared.Kind.{Kind}
-use Rattle.fields.specs.declared.Kind.TheVariants.{PolicySet, Policy, Rule, Section, Conjunction, Match, Logic, Not, Comparison, Weighing, Obligation, Literal, Attribute, Operator, Nothing}
 use Rattle.fields.proofs.First.{by}
 use Rattle.placement.specs.Place.{most_depth, kind_number, rank_of, rank_at}
 use Rattle.structure.specs.Subtrees.{Subtrees, subtree, record_count, record_at, subtrees_of}
@@ -20,8 +20,8 @@ use Rattle.structure.proofs.Records.{record_but_span, kind_same, parent_same}
 use Rattle.structure.proofs.Subtrees.{count_subtrees}
 use Rattle.structure.proofs.Sound.{rank_is, rank_of_lem}
 use Rattle.spoilt.specs.Spoilt.{line_ok, replaceable, first_bad, first_spoilt}
-use Rattle.spoilt.specs.Places.{parent, bad_at, spoilt_at}
-use Rattle.spoilt.proofs.Lines.{Kept, kept, line_any, subtrees_end, subtrees_next}
+use Rattle.spoilt.specs.Places.{parent, bad_at, spoilt_at, first_at, FirstIs}
+use Rattle.spoilt.proofs.Lines.{Kept, kept, subtrees_end, subtrees_next}
 use Rattle.spoilt.proofs.Trees.{Mendable, bad_empty, spoilt_empty, bad_inside, bad_none, bad_step, spoilt_step, spoilt_le, mendable}
 
 -- the first bad one of some records is not before them
@@ -29,28 +29,34 @@ pub bad_ge : (u : Parent) (e : ℕ) (b : List ℕ) (i left : ℕ) → i ≤ bad_
 unfolding bad_at
 bad_ge u e b i left = omega arith
 
--- where there is no record, none is bad, and none is spoilt
-pub bad_end : (u : Parent) (e : ℕ) (b : List ℕ) (i top : ℕ) → top ≤ i → bad_at u e b i (top - i) ≡ i
-unfolding bad_at
-bad_end u e b i top l = rw (subtrees_end b i top l, bad_empty u e) (omega arith)
+-- where there is no record, none is the first
+pub first_end : (r : Bool) (u : Parent) (e : ℕ) (b : List ℕ) (i top : ℕ) → top ≤ i → first_at r u e b i (top - i) ≡ i
+unfolding bad_at spoilt_at
+first_end true u e b i top l = rw (subtrees_end b i top l, spoilt_empty u e) (omega arith)
+first_end false u e b i top l = rw (subtrees_end b i top l, bad_empty u e) (omega arith)
 
-pub spoilt_end : (u : Parent) (e : ℕ) (b : List ℕ) (i top : ℕ) → top ≤ i → spoilt_at u e b i (top - i) ≡ i
-unfolding spoilt_at
-spoilt_end u e b i top l = rw (subtrees_end b i top l, spoilt_empty u e) (omega arith)
+-- a bad line is the first
+pub first_here : (r : Bool) (b : List ℕ) (i top d pn gc pc e : ℕ) → i < top
+    → false ≡ line_ok (parent d pn gc pc) e (record_at b i) (subtrees_of b (i + 1) (span_in b i (top - i) - 1)) → first_at r (parent d pn gc pc) e b i (top - i) ≡ i
+unfolding bad_at spoilt_at
+first_here true b i top d pn gc pc e l z =
+    rw (subtrees_next b i top l refl, spoilt_step (parent d pn gc pc) e (record_at b i) _ _, ← z) (omega arith)
+first_here false b i top d pn gc pc e l z =
+    rw (subtrees_next b i top l refl, bad_step (parent d pn gc pc) e (record_at b i) _ _, ← z) (omega arith)
 
--- a bad line is the first bad one and the first spoilt one
-module _ (b : List ℕ) (i top d pn gc pc e : ℕ) {t : Bool} (l : i < top)
-    (et : t ≡ line_ok (parent d pn gc 0) e (record_at b i) (subtrees_of b (i + 1) (span_in b i (top - i) - 1))) (z : t ≡ false) where
-  line_bad : line_ok (parent d pn gc pc) e (record_at b i) (subtrees_of b (i + 1) (span_in b i (top - i) - 1)) ≡ false
-  line_bad = sym (line_any d pn gc pc e (record_at b i) (subtrees_of b (i + 1) (span_in b i (top - i) - 1))) ∙ sym et ∙ z
+-- where none is the first, it is their end
+pub none_first : (o : Option ℕ) {end x : ℕ} → FirstIs o end x → o ≡ None → end ≤ x
+none_first None f e = omega (arith, f)
+none_first (Some i) f e = let z : ◌≡◌ {A = ℕ} 0 1 = cc in absurd (omega arith)
 
-  pub bad_here : bad_at (parent d pn gc pc) e b i (top - i) ≡ i
-  unfolding bad_at
-  bad_here = rw (subtrees_next b i top l refl, bad_step (parent d pn gc pc) e (record_at b i) _ _, line_bad) (omega arith)
+-- by whether there is one
+pub is_first : (o : Option ℕ) {end x : ℕ} → FirstIs o end x → true ≡ is_some o → x < end
+is_first None f e = no_false (sym e)
+is_first (Some i) f e = omega (arith, f.0, f.1)
 
-  pub spoilt_here : spoilt_at (parent d pn gc pc) e b i (top - i) ≡ i
-  unfolding spoilt_at
-  spoilt_here = rw (subtrees_next b i top l refl, spoilt_step (parent d pn gc pc) e (record_at b i) _ _, line_bad) (omega arith)
+pub no_first : (o : Option ℕ) {end x : ℕ} → FirstIs o end x → false ≡ is_some o → end ≤ x
+no_first None f e = omega (arith, f)
+no_first (Some i) f e = no_false e
 
 -- what the span of line i covers, and what is after that, below `top`
 abbrev pub kids : List ℕ → ℕ → Subtrees
@@ -92,32 +98,12 @@ pub record Passed (b : List ℕ) (i top d pn gc pc e : ℕ) (k : Kind) (c s g : 
   pub rank : g ≡ rank_of k c
 
 -- such a line, from what is known of each thing read
-pub passed : (pc : ℕ) {b : List ℕ} {i top d pn gc e : ℕ} {t : Bool} {k : Kind} {c s g : ℕ} → i < top
-    → t ≡ line_ok (parent d pn gc 0) e (record_at b i) (subtrees_of b (i + 1) (span_in b i (top - i) - 1)) → t ≡ true
-    → k ≡ kind_at b i → c ≡ byte_of b i 4 → s ≡ span_of b i → g ≡ rank_of k c → Passed b i top d pn gc pc e k c s g
-passed pc {b} {i} {top} {d} {pn} {gc} {e} l et z ek ec es eg = record { keeps = kept b i top d pn gc pc e l et z; kind = ek; category = ec; span = es; rank = eg }
-
--- a record that keeps the field rules has a number
-number_of : (b : List ℕ) (i : ℕ) (k : Kind) → rules_of b i k ≡ true → 1 ≤ kind_number k
-number_of b i PolicySet r = omega arith
-number_of b i Policy r = omega arith
-number_of b i Rule r = omega arith
-number_of b i Section r = omega arith
-number_of b i Conjunction r = omega arith
-number_of b i Match r = omega arith
-number_of b i Logic r = omega arith
-number_of b i Not r = omega arith
-number_of b i Comparison r = omega arith
-number_of b i Weighing r = omega arith
-number_of b i Obligation r = omega arith
-number_of b i Literal r = omega arith
-number_of b i Attribute r = omega arith
-number_of b i Operator r = omega arith
-number_of b i Nothing r = no_false r
-
-number_pos : (b : List ℕ) (i : ℕ) → field_ok b i ≡ true → 1 ≤ kind_number (kind_at b i)
-unfolding field_ok
-number_pos b i r = number_of b i (kind_at b i) r
+pub passed : {b : List ℕ} {i top d pn gc pc e : ℕ} {t : Bool} {k : Kind} {c s g : ℕ} → i < top
+    → t ≡ line_ok (parent d pn gc pc) e (record_at b i) (subtrees_of b (i + 1) (span_in b i (top - i) - 1)) → t ≡ true
+    → k ≡ kind_at b i → c ≡ byte_of b i 4 → s ≡ span_in b i (top - i) → g ≡ rank_of k c → Passed b i top d pn gc pc e k c s g
+passed {b} {i} {top} {d} {pn} {gc} {pc} {e} l et z ek ec es eg =
+    let w = kept b i top d pn gc pc e l et z in
+    record { keeps = w; kind = ek; category = ec; span = es ∙ span_stated b i (top - i) w.some (omega (arith, w.within)); rank = eg }
 
 either_right : (p : Bool) → either p true ≡ true
 either_right true = refl
@@ -152,45 +138,36 @@ module _ (b : List ℕ) {i top d pn gc pc e : ℕ} {k : Kind} {c s g : ℕ} (p :
   on_spoilt t =
       rw (tree b p.keeps, spoilt_step u e (record_at b i) (kids b i) (rest b i top), p.keeps.line, t, its_rank, p.span) (past (first_spoilt u g (rest b i top)))
 
-  module _ {m : ℕ} (em : m ≡ kind_number k) where
-    -- a policy or a set may be replaced: what is below it is passed over
-    replaced : replaceable u e (record_at b i) (kids b i) ≡ among 1 2 m
-    unfolding replaceable
-    replaced = rw (kind_same (record_at b i) 0 b i (record_but_span b i), ← p.kind, ← em, p.keeps.line) (both_true (among 1 2 m))
+  -- a policy or a set may be replaced: what is below it is passed over
+  replaced : replaceable u e (record_at b i) (kids b i) ≡ among 1 2 (kind_number k)
+  unfolding replaceable
+  replaced = rw (kind_same (record_at b i) 0 b i (record_but_span b i), ← p.kind, p.keeps.line) (both_true (among 1 2 (kind_number k)))
 
-    pub spoilt_over : m ≤ 2 → spoilt_at u e b i (top - i) ≡ spoilt_at u g b (i + s) (top - (i + s))
-    spoilt_over l = on_spoilt (rw (replaced, in_among 1 2 m (rw (em, p.kind) (number_pos b i p.keeps.fields)) l) refl)
+  pub first_over : (r : Bool) → both r (among 1 2 (kind_number k)) ≡ true → first_at r u e b i (top - i) ≡ first_at r u g b (i + s) (top - (i + s))
+  first_over true l = on_spoilt (rw (replaced, l) refl)
+  first_over false l = no_false l
 
-    -- a bad line is below it, or none is
-    module _ {x : ℕ} (ex : x ≡ bad_at (parent (d + 1) m pc c) 0 b (i + 1) (i + s - (i + 1))) where
-      bad_kids : x ≡ i + 1 + first_bad self 0 (kids b i)
-      bad_kids = kids_bad b p.keeps p.kind p.category p.span em ex
+  -- a bad line is below it, or none is
+  module _ {x : ℕ} (ex : x ≡ bad_at (parent (d + 1) (kind_number k) pc c) 0 b (i + 1) (i + s - (i + 1))) where
+    bad_kids : x ≡ i + 1 + first_bad self 0 (kids b i)
+    bad_kids = kids_bad b p.keeps p.kind p.category p.span refl ex
 
-      sound_kids : i + s ≤ x → sound self 0 (kids b i) ≡ true
-      sound_kids = kids_sound b p.keeps p.kind p.category p.span em ex
+    sound_kids : i + s ≤ x → sound self 0 (kids b i) ≡ true
+    sound_kids = kids_sound b p.keeps p.kind p.category p.span refl ex
 
-      unsound_kids : x < i + s → sound self 0 (kids b i) ≡ false
-      unsound_kids = kids_unsound b p.keeps p.kind p.category p.span em ex
+    unsound_kids : x < i + s → sound self 0 (kids b i) ≡ false
+    unsound_kids = kids_unsound b p.keeps p.kind p.category p.span refl ex
 
-      pub bad_in : x < i + s → bad_at u e b i (top - i) ≡ x
-      unfolding bad_at
-      bad_in l = rw (tree b p.keeps, bad_step u e (record_at b i) (kids b i) (rest b i top), p.keeps.line, unsound_kids l) (omega (arith, bad_kids))
+    pub first_in : (r : Bool) → both r (among 1 2 (kind_number k)) ≡ false → x < i + s → first_at r u e b i (top - i) ≡ x
+    unfolding bad_at spoilt_at
+    first_in true n l =
+        rw (tree b p.keeps, spoilt_step u e (record_at b i) (kids b i) (rest b i top), p.keeps.line, replaced, n, unsound_kids l)
+        (omega (arith, bad_kids))
+    first_in false n l = rw (tree b p.keeps, bad_step u e (record_at b i) (kids b i) (rest b i top), p.keeps.line, unsound_kids l) (omega (arith, bad_kids))
 
-      pub bad_on : i + s ≤ x → bad_at u e b i (top - i) ≡ bad_at u g b (i + s) (top - (i + s))
-      bad_on l = on_bad (sound_kids l)
-
-      pub spoilt_in : 2 < m → x < i + s → spoilt_at u e b i (top - i) ≡ x
-      unfolding spoilt_at
-      spoilt_in n l =
-          rw (tree b p.keeps, spoilt_step u e (record_at b i) (kids b i) (rest b i top), p.keeps.line, replaced, above_among 1 2 m n, unsound_kids l)
-          (omega (arith, bad_kids))
-
-      pub spoilt_on : i + s ≤ x → spoilt_at u e b i (top - i) ≡ spoilt_at u g b (i + s) (top - (i + s))
-      spoilt_on l = on_spoilt (rw (sound_kids l) (either_right (replaceable u e (record_at b i) (kids b i))))
-
-  -- nothing is below it
-  pub bad_leaf : i + s ≡ i + 1 → bad_at u e b i (top - i) ≡ bad_at u g b (i + s) (top - (i + s))
-  bad_leaf q = bad_on refl (sym (bad_end (parent (d + 1) (kind_number k) pc c) 0 b (i + 1) (i + s) (omega arith))) (omega arith)
+    pub first_on : (r : Bool) → i + s ≤ x → first_at r u e b i (top - i) ≡ first_at r u g b (i + s) (top - (i + s))
+    first_on true l = on_spoilt (rw (sound_kids l) (either_right (replaceable u e (record_at b i) (kids b i))))
+    first_on false l = on_bad (sound_kids l)
 
 -- children of which none is spoilt, from i on and below `top`
 pub record Unspoilt (b : List ℕ) (i top d pn gc pc : ℕ) : Type 0 where
@@ -208,7 +185,7 @@ module _ (b : List ℕ) {i top d pn gc pc : ℕ} (w : Unspoilt b i top d pn gc p
       mendable (parent d pn gc pc) w.rank (record_at b i) _ _ (rw (subtrees_next b i top l refl) at all)
 
   pub unspoilt_kept : Kept b i top d pn gc pc w.rank
-  unspoilt_kept = kept b i top d pn gc pc w.rank l (sym (line_any d pn gc pc w.rank (record_at b i) _)) unspoilt_parts.line
+  unspoilt_kept = kept b i top d pn gc pc w.rank l refl unspoilt_parts.line
 
   pub unspoilt_next : {s : ℕ} → s ≡ span_of b i → Unspoilt b (i + s) top d pn gc pc
   unfolding spoilt_at

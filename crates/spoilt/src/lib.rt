@@ -1,50 +1,54 @@
 // The bad lines of a half-copied book: records that are read as subtrees, by their spans, whatever these are.
+// Kept: book, from and top apart, since top changes at each level; docs/CONTRACTS.md names `first_bad`, `first_spoilt` and `is_set`.
 #![tactic(auto)]
 
-ghost use Rattle.std.specs.Prelude.{◌≡◌, ◌+◌, ◌*◌, ◌-◌, ◌<◌, ◌≤◌, length};
-ghost use Rattle.record.specs.Bytes.{size, byte_of};
+ghost use Rattle.std.specs.Prelude.{◌≡◌, ◌+◌, ◌*◌, ◌-◌, ◌<◌, ◌≤◌, length, ltb, leb};
+ghost use Rattle.record.specs.Choose.{both, among};
+ghost use Rattle.record.specs.Bytes.{size, byte_of, span_of};
 ghost use Rattle.record.specs.Forest.{span_in};
-ghost use Rattle.fields.specs.Fields.{kind_at};
-ghost use Rattle.fields.specs.declared.Kind.TheVariants.{Weighing};
+ghost use Rattle.fields.specs.Fields.{kind_at, rules_of};
+ghost use Rattle.fields.specs.declared.Kind.TheVariants.{PolicySet, Weighing};
 ghost use Rattle.operands.specs.Operands.{operands_ok};
+ghost use Rattle.placement.specs.Place.{most_depth, kind_number, stands_ok};
 ghost use Rattle.structure.specs.Subtrees.{record_at, subtrees_of};
 ghost use Rattle.structure.specs.Sound.{first_type, two_of};
 ghost use Rattle.spoilt.specs.Spoilt.{line_ok, is_set};
-ghost use Rattle.spoilt.specs.Places.{parent, bad_at, spoilt_at};
+ghost use Rattle.spoilt.specs.Places.{parent, of_parent, bad_at, spoilt_at, first_at, FirstIs};
 
 use fields::Kind;
+use placement::Parent;
+use record::siblings::Siblings;
 
 // The type of the first of the records from `from` on and below `top`; 0 where there is none.
+// Kept: 0 for none, which is also the type of a record that is no value, so one test in `operands::comparable` refuses both.
 fn first_type(book: &[u8], from: usize, top: usize) -> usize
     requires { (top * size ≤ length book.now) × (from ≤ top) }
     ensures { result ≡ first_type (subtrees_of book.now from (top - from)) }
 {
-    if top <= from {
-        return 0;
+    if from < top {
+        operands::value_type(book, from)
+    } else {
+        0
     }
-    operands::value_type(book, from)
 }
 
 // Whether they are two values of type t, each with what it covers.
+// Kept beside `operands`, here and below: children are cut at their parent's end here (`subtrees_of`), and found by `end_of` there.
 fn two_of(book: &[u8], from: usize, top: usize, t: usize) -> bool
     requires { (top * size ≤ length book.now) × (from ≤ top) }
     ensures { result ≡ two_of (subtrees_of book.now from (top - from)) t }
 {
-    if top <= from {
+    let mut values = Siblings::new(book, from, top - from);
+    let Some((first, _)) = values.next() else {
+        return false;
+    };
+    let Some((second, _)) = values.next() else {
+        return false;
+    };
+    if values.next().is_some() {
         return false;
     }
-    let second = from + record::span_in(book, from, top - from);
-    if top <= second {
-        return false;
-    }
-    let third = second + record::span_in(book, second, top - second);
-    if third < top {
-        return false;
-    }
-    if operands::value_type(book, from) != t {
-        return false;
-    }
-    operands::value_type(book, second) == t
+    operands::value_type(book, first) == t && operands::value_type(book, second) == t
 }
 
 // Whether they are two values that choice c may compare.
@@ -53,10 +57,7 @@ fn comparable_two(book: &[u8], from: usize, top: usize, c: usize) -> bool
     ensures { result ≡ operands_ok Weighing c (first_type (subtrees_of book.now from (top - from))) (two_of (subtrees_of book.now from (top - from))) }
 {
     let t = first_type(book, from, top);
-    if !operands::comparable(t, c) {
-        return false;
-    }
-    two_of(book, from, top, t)
+    operands::comparable(t, c) && two_of(book, from, top, t)
 }
 
 // Whether they are the operands that a parent of kind k and choice c wants.
@@ -65,134 +66,111 @@ fn operands_in(book: &[u8], from: usize, top: usize, k: Kind, c: usize) -> bool
     ensures { result ≡ operands_ok k c (first_type (subtrees_of book.now from (top - from))) (two_of (subtrees_of book.now from (top - from))) }
 {
     match k {
-        Kind::PolicySet => true,
-        Kind::Policy => true,
-        Kind::Rule => true,
-        Kind::Section => true,
-        Kind::Conjunction => true,
-        Kind::Match => true,
-        Kind::Logic => true,
-        Kind::Not => true,
-        Kind::Comparison => true,
         Kind::Weighing => comparable_two(book, from, top, c),
-        Kind::Obligation => true,
-        Kind::Literal => true,
-        Kind::Attribute => true,
         Kind::Operator => two_of(book, from, top, operands::operator_type(c)),
-        Kind::Nothing => true,
+        _ => true,
     }
 }
 
-// Whether record i, of kind k, is no bad line, below `top`, as a child, after one of rank `before`, of a parent of number `kind` whose own parent's category is `outer`,
-// where `above` levels are above it.
-fn line_ok(
-    book: &[u8],
-    i: usize,
-    top: usize,
-    above: usize,
-    kind: usize,
-    outer: usize,
-    before: usize,
-    k: Kind,
-) -> bool
+// Whether record i, of kind k, keeps the rules below `top` that ask nothing of its operands, as a child of `up` after one of rank `before`.
+fn head_ok(book: &[u8], i: usize, top: usize, up: Parent, before: usize, k: Kind) -> bool
     requires { (top * size ≤ length book.now) × (i < top) × (before < 256) × (k ≡ kind_at book.now i) }
-    ensures { result ≡ line_ok (parent above kind outer 0) before (record_at book.now i) (subtrees_of book.now (i + 1) (span_in book.now i (top - i) - 1)) }
+    ensures { result ≡ both (rules_of book.now i k) (both (leb (i + span_of book.now i) top) (both (ltb up.depth most_depth)
+        (stands_ok up.kind k (byte_of book.now i 4) before up.outer))) }
 {
-    if !fields::rules(book, i, k) {
-        return false;
-    }
-    let end = i + record::span(book, i);
-    if top < end {
-        return false;
-    }
-    if placement::MOST_DEPTH <= above {
-        return false;
-    }
-    let c = record::byte(book, i, 4);
-    if !placement::stands(kind, k, c, before, outer) {
-        return false;
-    }
-    operands_in(book, i + 1, end, k, record::byte(book, i, 1))
+    fields::rules(book, i, k)
+        && i + record::span(book, i) <= top
+        && up.depth < placement::MOST_DEPTH
+        && placement::stands(up, k, record::byte(book, i, 4), before)
 }
 
-// The first bad one of the records from `from` on and below `top`, `top` where none is bad. They are children, after a child of rank `before`, of a parent of
-// number `kind` and category `category`, whose own parent's category is `outer`, where `above` levels are above them.
-pub fn first_bad(
+// Whether record i, of kind k, is no bad line, below `top`, as a child of `up` after one of rank `before`.
+fn line_ok(book: &[u8], i: usize, top: usize, up: Parent, before: usize, k: Kind) -> bool
+    requires { (top * size ≤ length book.now) × (i < top) × (before < 256) × (k ≡ kind_at book.now i) }
+    ensures { result ≡ line_ok (of_parent up) before (record_at book.now i) (subtrees_of book.now (i + 1) (span_in book.now i (top - i) - 1)) }
+{
+    head_ok(book, i, top, up, before, k)
+        && operands_in(
+            book,
+            i + 1,
+            i + record::span(book, i),
+            k,
+            record::byte(book, i, 1),
+        )
+}
+
+// Whether what stands below a record of kind k is passed over: that of a policy or a set, where these may be replaced.
+fn passes(replaces: bool, k: Kind) -> bool
+    ensures { result ≡ both replaces (among 1 2 (kind_number k)) }
+{
+    replaces && matches!(k, Kind::PolicySet | Kind::Policy)
+}
+
+// The first bad one of the records from `from` on and below `top`; where policies and sets may be replaced, of those outside them only. They are children of
+// `up`, after a child of rank `before`, and what stands below them.
+fn first_line(
     book: &[u8],
     from: usize,
     top: usize,
-    above: usize,
-    kind: usize,
-    outer: usize,
-    category: usize,
+    up: Parent,
     before: usize,
-) -> usize
-    requires { (top * size ≤ length book.now) × (from ≤ top) × (above ≤ 16) × (before < 256) }
-    ensures { (result ≡ bad_at (parent above kind outer category) before book.now from (top - from)) × (result ≤ top) }
+    replaces: bool,
+) -> Option<usize>
+    requires { (top * size ≤ length book.now) × (from ≤ top) × (up.depth ≤ most_depth) × (before < 256) }
+    ensures { FirstIs result top (first_at replaces (of_parent up) before book.now from (top - from)) }
 {
-    let mut i = from;
     let mut rank = before;
-    while i < top {
+    for (i, s) in Siblings::new(book, from, top - from) {
         let k = fields::kind_at(book, i);
-        if !line_ok(book, i, top, above, kind, outer, rank, k) {
-            return i;
+        if !line_ok(book, i, top, up, rank, k) {
+            return Some(i);
         }
-        let at = i;
-        let c = record::byte(book, at, 4);
-        let next = at + record::span(book, at);
+        let c = record::byte(book, i, 4);
+        if !passes(replaces, k)
+            && let Some(bad) = first_line(book, i + 1, i + s, up.below(k, c), 0, false)
+        {
+            return Some(bad);
+        }
         rank = placement::rank(k, c);
-        i = next;
-        if next == at + 1 {
-            continue;
-        }
-        let number = placement::number(k);
-        let bad = first_bad(book, at + 1, next, above + 1, number, category, c, 0);
-        if bad < next {
-            return bad;
-        }
     }
-    top
+    None
 }
 
-// The first spoilt one of n records below line 1, a set of this category; n where none is spoilt.
-pub fn first_spoilt(book: &[u8], n: usize, category: usize) -> usize
-    requires { (n * size ≤ length book.now) × (1 ≤ n) }
-    ensures { (result ≡ spoilt_at (parent 1 1 category category) 0 book.now 1 (n - 1)) × (result ≤ n) }
+// The first bad one of the records from `from` on and below `top`, children of `up` after a child of rank `before`, and what stands below them.
+pub fn first_bad(book: &[u8], from: usize, top: usize, up: Parent, before: usize) -> Option<usize>
+    requires { (top * size ≤ length book.now) × (from ≤ top) × (up.depth ≤ most_depth) × (before < 256) }
+    ensures { FirstIs result top (bad_at (of_parent up) before book.now from (top - from)) }
 {
-    let mut i: usize = 1;
-    let mut rank: usize = 0;
-    while i < n {
-        let k = fields::kind_at(book, i);
-        if !line_ok(book, i, n, 1, 1, category, rank, k) {
-            return i;
-        }
-        let at = i;
-        let c = record::byte(book, at, 4);
-        let next = at + record::span(book, at);
-        rank = placement::rank(k, c);
-        i = next;
-        let number = placement::number(k);
-        if number <= 2 {
-            continue;
-        }
-        let bad = first_bad(book, at + 1, next, 2, number, category, c, 0);
-        if bad < next {
-            return bad;
-        }
+    first_line(book, from, top, up, before, false)
+}
+
+// Line 1 as the parent of its children, where it is a set of this category.
+pub fn root(category: usize) -> Parent
+    ensures { result ≡ record { kind = kind_number PolicySet; category = category; outer = category; depth = 1 } }
+{
+    Parent {
+        kind: placement::number(Kind::PolicySet),
+        category,
+        outer: category,
+        depth: 1,
     }
-    n
+}
+
+// The first spoilt one of n records below line 1, a set of this category.
+pub fn first_spoilt(book: &[u8], n: usize, category: usize) -> Option<usize>
+    requires { (n * size ≤ length book.now) × (1 ≤ n) }
+    ensures { FirstIs result n (spoilt_at (parent 1 1 category category) 0 book.now 1 (n - 1)) }
+{
+    first_line(book, 1, n, root(category), 0, true)
 }
 
 // Whether line 1 is a sound set whose span is the number of records.
+#[tactic(auto, unfolding(crate::specs::Spoilt::is_set))]
 pub fn is_set(book: &[u8], n: usize) -> bool
     requires { (1 ≤ n) × (n * size ≤ length book.now) }
     ensures { result ≡ is_set book.now n }
 {
-    if !fields::field_ok(book, 0) {
-        return false;
-    }
-    if placement::number(fields::kind_at(book, 0)) != 1 {
-        return false;
-    }
-    record::span(book, 0) == n
+    fields::field_ok(book, 0)
+        && fields::kind_at(book, 0) == Kind::PolicySet
+        && record::span(book, 0) == n
 }

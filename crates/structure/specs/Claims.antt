@@ -8,18 +8,17 @@ use Rattle.fields.specs.Fields.{kind_at, obligations_of}
 use Rattle.fields.specs.declared.Kind.TheVariants.{PolicySet, Obligation}
 use Rattle.operands.specs.Parent.{parent_of}
 use Rattle.placement.specs.Place.{most_depth, kind_number, rank_of, rank_at}
-use Rattle.judge.specs.Judge.{judge_of}
+use Rattle.judge.specs.Judge.{judge_of, accepted_with}
 use Rattle.placement.specs.Keeps.{Sized, Keeps}
-use Rattle.judge.specs.declared.Judged.TheVariants.{Accepted}
 use Rattle.structure.specs.Subtrees.{Subtrees, record_count, subtrees_of, bytes_of, spanned, whole_records, slice_of, SameRecords, SameButSpan}
 use Rattle.structure.specs.Sound.{Parent, line_one, rank_after, sound_book, sound_at, SoundChild, SoundParts}
 
 -- a book is accepted exactly when its parts are sound: its head, its own sections and obligations, and each child's records by themselves, one level down
 abbrev pub AcceptedByParts : Type 0
-AcceptedByParts = (b : List ℕ) (n m : ℕ) → judge_of b ≡ Accepted n m → SoundParts b n × (m ≡ obligations_of b n)
+AcceptedByParts = (b : List ℕ) (n m : ℕ) → judge_of b ≡ accepted_with n m → SoundParts b n × (m ≡ obligations_of b n)
 
 abbrev pub PartsAreAccepted : Type 0
-PartsAreAccepted = (b : List ℕ) (n : ℕ) → SoundParts b n → judge_of b ≡ Accepted n (obligations_of b n)
+PartsAreAccepted = (b : List ℕ) (n : ℕ) → SoundParts b n → judge_of b ≡ accepted_with n (obligations_of b n)
 
 -- that is, it keeps the rules line by line exactly when its parts are sound
 abbrev pub KeptByParts : Type 0
@@ -79,7 +78,7 @@ ChildForChild =
 -- a sound book, written as bytes, is accepted, and is read back as it was
 abbrev pub SoundIsAccepted : Type 0
 SoundIsAccepted =
-    (x : Subtrees) → sound_book x ≡ true → record_count x ≤ most_records → judge_of (bytes_of x) ≡ Accepted (record_count x) (obligations_of (bytes_of x) (record_count x))
+    (x : Subtrees) → sound_book x ≡ true → record_count x ≤ most_records → judge_of (bytes_of x) ≡ accepted_with (record_count x) (obligations_of (bytes_of x) (record_count x))
 
 abbrev pub SoundIsReadBack : Type 0
 SoundIsReadBack = (x : Subtrees) → sound_book x ≡ true → subtrees_of (bytes_of x) 0 (record_count x) ≡ x
@@ -88,11 +87,11 @@ SoundIsReadBack = (x : Subtrees) → sound_book x ≡ true → subtrees_of (byte
 abbrev pub SpannedIsAccepted : Type 0
 SpannedIsAccepted =
     (x : Subtrees) → sound_book (spanned x) ≡ true → record_count x ≤ most_records
-    → judge_of (bytes_of (spanned x)) ≡ Accepted (record_count x) (obligations_of (bytes_of (spanned x)) (record_count x))
+    → judge_of (bytes_of (spanned x)) ≡ accepted_with (record_count x) (obligations_of (bytes_of (spanned x)) (record_count x))
 
 abbrev pub AcceptedIsSound : Type 0
 AcceptedIsSound =
-    (x : Subtrees) (n m : ℕ) → whole_records x ≡ true → judge_of (bytes_of (spanned x)) ≡ Accepted n m → (sound_book (spanned x) ≡ true) × (n ≡ record_count x)
+    (x : Subtrees) (n m : ℕ) → whole_records x ≡ true → judge_of (bytes_of (spanned x)) ≡ accepted_with n m → (sound_book (spanned x) ≡ true) × (n ≡ record_count x)
 
 abbrev pub SpannedIsReadBack : Type 0
 SpannedIsReadBack = (x : Subtrees) → whole_records x ≡ true → subtrees_of (bytes_of (spanned x)) 0 (record_count x) ≡ spanned x

@@ -11,8 +11,7 @@ use Rattle.meaning.specs.Reading.{exprs_in, book_of}
 use Rattle.meaning.specs.Typed.{Typed, TypedTree}
 use Rattle.operands.specs.Operands.{operator_type, comparable_by}
 use Rattle.placement.specs.Keeps.{Keeps}
-use Rattle.judge.specs.Judge.{judge_of}
-use Rattle.judge.specs.declared.Judged.TheVariants.{Accepted}
+use Rattle.judge.specs.Judge.{judge_of, accepted_with}
 
 -- records are read as two values and no more, both of type t, and the operands within these are of their operators' types too
 pub record TwoValues (b : List ℕ) (f : Forest) (t : ℕ) : Type 0 where
@@ -43,4 +42,4 @@ ReadAsTwo =
 
 -- the tree of an accepted book: operands are of their operators' types, values that are compared of one type, literals of eight bytes
 abbrev pub AcceptedIsTyped : Type 0
-AcceptedIsTyped = (b : List ℕ) (n m : ℕ) → Bytes b → judge_of b ≡ Accepted n m → TypedTree (book_of b)
+AcceptedIsTyped = (b : List ℕ) (n m : ℕ) → Bytes b → judge_of b ≡ accepted_with n m → TypedTree (book_of b)

@@ -1,7 +1,9 @@
 -- The eight bytes of a value: the claims of specs/Bytes.antt. Assumes nothing.
+use Rattle.std.specs.Prelude.{Err, Ok}
 use mathlib.Core.Path.{◌≡◌, refl, sym, subst, ap, ◌∙◌}
 use mathlib.Core.Bool.{Bool, true, false, not, cond, true≢false}
 use Prim.Native.Nat.{ℕ, zero, suc, ◌-◌, ◌/◌, ◌%◌, ◌^◌, ◌<◌, ◌≤◌}
+use Rattle.sums.specs.Worth.{Worth}
 use native.Mathlib.Nat.{lt_of_le_of_lt}
 use native.Mathlib.Omega.{arith}
 use borrow.Author.Tests.{ltb-true, ltb-false}
@@ -18,8 +20,6 @@ use Rattle.value.specs.declared.Value.TheVariants.{Integer, Name, Double}
 use Rattle.value.proofs.Halves.{low, high}
 use Rattle.sums.specs.declared.Operator.{Operator}
 use Rattle.sums.specs.declared.Operator.TheVariants.{Add, Subtract, Multiply, Divide, Remainder, DoubleAdd}
-use Rattle.sums.specs.declared.Worth.{Worth}
-use Rattle.sums.specs.declared.Worth.TheVariants.{Is, Lost}
 use Rattle.sums.specs.Sums.{failed, unsigned64, bytes_of, fitted, add_of, sub_of, mul_of, div_of, rem_of, plus_of, of_integers, of_doubles, result_of, kind_of}
 use Rattle.sums.specs.Bytes.{Of, BytesBack, AsItIs, ResultOfKind}
 use Rattle.sums.proofs.Finite.{finite_or, bits_back, sum_is}
@@ -71,10 +71,10 @@ unfolding value_of
 of_integer z h = record { bytes = unsigned64 z; short = unsigned_short z h; stands = ap Integer (sym (unsigned_back z h)) }
 
 Made : ℕ → Worth → Type 0
-Made k (Is v) = Of k v
-Made k (Lost s) = Unit
+Made k (Ok v) = Of k v
+Made k (Err s) = Unit
 
-made : (k : ℕ) (w : Worth) (v : Value) → Made k w → w ≡ Is v → Of k v
+made : (k : ℕ) (w : Worth) (v : Value) → Made k w → w ≡ Ok v → Of k v
 unfolding Made
 made k w v h e = subst (Made k) e h
 
@@ -82,7 +82,7 @@ made_fitted : (z : ℤ) → Made 1 (fitted z)
 unfolding Made
 made_fitted z = go (ltb (mag z) (2 ^ 63)) refl
   where
-    go : (b : Bool) → ltb (mag z) (2 ^ 63) ≡ b → Made 1 (if b (Is (Integer z)) failed)
+    go : (b : Bool) → ltb (mag z) (2 ^ 63) ≡ b → Made 1 (if b (Ok (Integer z)) failed)
     go true e = of_integer z (ltb-true _ _ e)
     go false e = tt
 
@@ -167,7 +167,7 @@ made_result Add x y h k = made_integers add_of (λ a b l. made_fitted (a +ℤ b)
 made_result Subtract x y h k = made_integers sub_of (λ a b l. made_fitted (a -ℤ b)) x y h
 made_result Multiply x y h k = made_integers mul_of (λ a b l. made_fitted (a *ℤ b)) x y h
 made_result Divide x y h k = made_integers div_of (λ a b l. made_if 1 (eqb (nat_abs b) 0) (fitted (quot_z a b)) (made_fitted (quot_z a b))) x y h
-made_result Remainder x y h k = made_integers rem_of (λ a b l. made_if 1 (eqb (nat_abs b) 0) (Is (Integer (rem_z a b))) (of_integer (rem_z a b) (lt_of_le_of_lt (mag_rem a b) l))) x y h
+made_result Remainder x y h k = made_integers rem_of (λ a b l. made_if 1 (eqb (nat_abs b) 0) (Ok (Integer (rem_z a b))) (of_integer (rem_z a b) (lt_of_le_of_lt (mag_rem a b) l))) x y h
 made_result DoubleAdd x y h k = made_doubles x y h k
 
 pub result_of_kind : ResultOfKind

@@ -1,8 +1,10 @@
 -- The claims of specs/Claims.antt. Assumes nothing.
+use Rattle.std.specs.Prelude.{Err, Ok}
 use mathlib.Core.Path.{◌≡◌, refl, sym, ap, ◌∙◌}
 use mathlib.Core.Bool.{Bool, true, false, true≢false}
 use Prim.Native.Nat.{ℕ, zero, suc, ◌+◌, ◌-◌, ◌*◌, ◌/◌, ◌%◌, ◌^◌, ◌<◌, ◌≤◌}
-use native.Mathlib.Nat.{zero-mul, mod-le, mod-lt, div-add-mod', div-mul-le_self}
+use Rattle.sums.specs.Worth.{Worth}
+use native.Mathlib.Nat.{zero-mul, mod-le, mod-lt, mod-one, div-one, div-le_self, div-lt_self, div-add-mod', div-mul-le_self, lt_of_le_of_lt}
 use native.Mathlib.Omega.{arith}
 use borrow.Author.Tests.{ltb-true, lt-ltb, le-ltb, ne_eqb}
 use lib.Dec.{leb, leb-suc-suc}
@@ -13,18 +15,15 @@ use Rattle.record.specs.Choose.{if, both}
 use Rattle.value.specs.declared.Value.{Value}
 use Rattle.value.specs.declared.Value.TheVariants.{Integer, Name, Double}
 use Rattle.sums.specs.declared.Operator.TheVariants.{Add, Subtract, Multiply, Divide, Remainder, DoubleAdd}
-use Rattle.sums.specs.declared.Worth.{Worth}
-use Rattle.sums.specs.declared.Worth.TheVariants.{Is, Lost}
 use Rattle.sums.specs.Sums.{failed, add_of, sub_of, mul_of, div_of, rem_of, plus_of, of_integers, of_doubles}
 use Rattle.sums.specs.Claims.{kind_of_value, FitsIs, ExactFirst, NoneByZero, QuotientAndRemainder, DividesTowardZero, RemainderByMinusOne, LeastByMinusOne, OnlyLeast, NoOther}
-use Rattle.sums.proofs.Quot.{quot_fits', by_one}
 
 -- what fits
 pub fits_is : FitsIs
 fits_is (pos n) = rw (leb-suc-suc n (2 ^ 63 - 1))
 fits_is (negsuc n) = rw (leb-suc-suc n (2 ^ 63 - 1)) (go (leb n (2 ^ 63 - 1)))
   where
-    go : (b : Bool) → if b (Is (Integer (negsuc n))) failed ≡ if (both b true) (Is (Integer (negsuc n))) failed
+    go : (b : Bool) → if b (Ok (Integer (negsuc n))) failed ≡ if (both b true) (Ok (Integer (negsuc n))) failed
     go true = refl
     go false = refl
 
@@ -97,20 +96,39 @@ divides_toward_zero x y n =
     }
 
 -- by -1
+by_one : (x : ℤ) → Ok (Integer (pos 0)) ≡ rem_of x (negsuc 0)
+by_one (pos a) = rw (mod-one a)
+by_one (negsuc a) = rw (mod-one (suc a))
+
 pub remainder_by_minus_one : RemainderByMinusOne
 remainder_by_minus_one x = sym (by_one x)
 
 pub least_by_minus_one : LeastByMinusOne
 least_by_minus_one = refl
 
+neg_mag : (k : ℕ) → k ≤ 2 ^ 63 → mag (neg_ℤ (pos k)) < 2 ^ 63
+neg_mag zero h = omega arith
+neg_mag (suc k) h = omega arith
+
+quot_fits : (x y : ℤ) → mag x < 2 ^ 63 → (y ≡ negsuc 0 → x ≡ negsuc 9223372036854775807 → ⊥) → mag (quot_z x y) < 2 ^ 63
+quot_fits (pos a) (pos b) h n = lt_of_le_of_lt (div-le_self a b) h
+quot_fits (pos a) (negsuc b) h n = let l : a / suc b ≤ a = div-le_self a (suc b) in neg_mag (a / suc b) (omega arith)
+quot_fits (negsuc a) (pos b) h n = let l : suc a / b ≤ suc a = div-le_self (suc a) b in neg_mag (suc a / b) (omega arith)
+quot_fits (negsuc a) (negsuc zero) h n =
+    let m : a ≡ 9223372036854775807 → ⊥ = λ e. n refl (ap negsuc e) in
+    rw (div-one (suc a)) (omega arith)
+quot_fits (negsuc a) (negsuc (suc b)) h n =
+    let l : suc a / suc (suc b) < suc a = div-lt_self (omega arith) (omega arith) in
+    omega arith
+
 is_lost : Worth → Bool
-is_lost (Is v) = false
-is_lost (Lost s) = true
+is_lost (Ok v) = false
+is_lost (Err s) = true
 
 given : (x y : ℤ) → (nat_abs y ≡ 0 → ⊥) → div_of x y ≡ failed → mag (quot_z x y) < 2 ^ 63 → ⊥
 unfolding is_lost
 given x y n e h =
-    let f : div_of x y ≡ Is (Integer (quot_z x y)) = rw (ne_eqb (nat_abs y) 0 n, lt-ltb (mag (quot_z x y)) (2 ^ 63) h) refl in
+    let f : div_of x y ≡ Ok (Integer (quot_z x y)) = rw (ne_eqb (nat_abs y) 0 n, lt-ltb (mag (quot_z x y)) (2 ^ 63) h) refl in
     true≢false (ap is_lost (sym e ∙ f))
 
 pub only_least : OnlyLeast
@@ -118,8 +136,8 @@ only_least x y h n e = go (ℤ_discrete x (negsuc (2 ^ 63 - 1))) (ℤ_discrete y
   where
     go : Dec (x ≡ negsuc (2 ^ 63 - 1)) → Dec (y ≡ negsuc 0) → (x ≡ negsuc (2 ^ 63 - 1)) × (y ≡ negsuc 0)
     go (yes p) (yes q) = (p, q)
-    go (yes p) (no q) = absurd (given x y n e (quot_fits' x y h (λ s r. q s)))
-    go (no p) d = absurd (given x y n e (quot_fits' x y h (λ s r. p r)))
+    go (yes p) (no q) = absurd (given x y n e (quot_fits x y h (λ s r. q s)))
+    go (no p) d = absurd (given x y n e (quot_fits x y h (λ s r. p r)))
 
 -- other types
 not_integers : (f : ℤ → ℤ → Worth) (x y : Value) → ((kind_of_value x ≡ 1) × (kind_of_value y ≡ 1) → ⊥) → of_integers f x y ≡ failed

@@ -1,8 +1,10 @@
 -- Equal operands give equal results: the claims of specs/Equal.antt. Assumes nothing.
+use Rattle.std.specs.Prelude.{Err, Ok}
 use mathlib.Core.Path.{◌≡◌, refl, sym, ap₂, subst, ◌∙◌}
 use mathlib.Core.Bool.{Bool, true, false}
 use mathlib.Core.Logic.{◌⊎◌, inl, inr}
 use Prim.Native.Nat.{ℕ, zero, suc, ◌^◌}
+use Rattle.sums.specs.Worth.{Worth}
 use native.Mathlib.Omega.{arith}
 use borrow.Author.Tests.{lt-ltb}
 use lib.Dec.{T, leb, eqb}
@@ -20,16 +22,14 @@ use Rattle.value.proofs.Sizes.{double_value, bits_value}
 use Rattle.value.proofs.Functions.{equal_to_itself, same_whole, SameUnits, SameName, equal_doubles}
 use Rattle.doubles.specs.Rounds.{dropped, even, minus_of, finite_sum}
 use Rattle.sums.specs.declared.Operator.TheVariants.{Add, Subtract, Multiply, Divide, Remainder, DoubleAdd}
-use Rattle.sums.specs.declared.Worth.{Worth}
-use Rattle.sums.specs.declared.Worth.TheVariants.{Is, Lost}
 use Rattle.sums.specs.Sums.{failed, exact_sum, nearest_sum, add_of, sub_of, mul_of, div_of, rem_of, of_integers, bytes_of, result_of}
 use Rattle.sums.specs.Equal.{WorthAlike, EqualValues, EqualOperands}
 use Rattle.sums.proofs.Finite.{no_first, no_second}
 use Rattle.sums.proofs.Bytes.{is_fin, double_back}
 
 alike_itself : (kind : ℕ) (w : Worth) → WorthAlike kind w w
-alike_itself kind (Is v) = equal_to_itself kind (bytes_of v)
-alike_itself kind (Lost s) = refl
+alike_itself kind (Ok v) = equal_to_itself kind (bytes_of v)
+alike_itself kind (Err s) = refl
 
 -- a finite double is read from the bytes that it is written as
 has_size : (x : Float) (s : Bool) (a c : ℕ) → HasValue x s a c → is_fin x ≡ true
@@ -55,10 +55,10 @@ written_units n p = go (equal_doubles (written n) n (rw (written_value n p) (equ
 abbrev by_type : Bool → Bool → ℕ → Value
 by_type s t n = if s (Integer (signed64 n)) (if t (Name n) (value_of 3 n))
 
-doubles_written : (a b : ℕ) → T (equal_of (value_of 3 a) (value_of 3 b)) → SameUnits a b ⊎ SameName a b → WorthAlike 3 (Is (value_of 3 a)) (Is (value_of 3 b))
+doubles_written : (a b : ℕ) → T (equal_of (value_of 3 a) (value_of 3 b)) → SameUnits a b ⊎ SameName a b → WorthAlike 3 (Ok (value_of 3 a)) (Ok (value_of 3 b))
 doubles_written a b e (inl u) =
     rw (double_value a u.0, double_value b u.1, written_value a u.0, written_value b u.1) e
-doubles_written a b e (inr u) = rw u.2 (alike_itself 3 (Is (value_of 3 b)))
+doubles_written a b e (inr u) = rw u.2 (alike_itself 3 (Ok (value_of 3 b)))
 
 pub equal_values : EqualValues
 unfolding value_of
@@ -77,7 +77,7 @@ integers_alike f a b c d p q = rw (same_whole (signed64 a) (signed64 c) p, same_
 
 -- doubles: of one exact sum the nearest doubles differ at most in the sign of a zero
 abbrev nearest_by : Bool → ℤ → Worth
-nearest_by s z = if (finite_sum z) (Is (Double (units binary64 s (even (nat_abs z) (dropped (nat_abs z))) (dropped (nat_abs z))))) failed
+nearest_by s z = if (finite_sum z) (Ok (Double (units binary64 s (even (nat_abs z) (dropped (nat_abs z))) (dropped (nat_abs z))))) failed
 
 zeros_alike : (s t : Bool) → WorthAlike 3 (nearest_by s (pos 0)) (nearest_by t (pos 0))
 unfolding size units odd to_bits of_bits of_fields eq value_of finite_of
@@ -115,8 +115,8 @@ doubles_alike a b c d (inl u) (inl v) =
     (nearest_alike (written a) (written b) (written c) (written d)
     (written_units a u.0 ∙ u.2 ∙ sym (written_units c u.1))
     (written_units b v.0 ∙ v.2 ∙ sym (written_units d v.1)))
-doubles_alike a b c d (inl u) (inr v) = rw (← no_second a b v.0, ← no_second c d v.1) refl
-doubles_alike a b c d (inr u) k = rw (← no_first a (value_of 3 b) u.0, ← no_first c (value_of 3 d) u.1) refl
+doubles_alike a b c d (inl u) (inr v) = rw (no_second a b (sym v.0), no_second c d (sym v.1)) refl
+doubles_alike a b c d (inr u) k = rw (no_first a (value_of 3 b) (sym u.0), no_first c (value_of 3 d) (sym u.1)) refl
 
 pub equal_operands : EqualOperands
 equal_operands Add a b c d p q = integers_alike add_of a b c d p q

@@ -1,8 +1,4 @@
-pub mod Signed
-pub mod Sum
-pub mod Quot
-pub mod Sizes
-pub mod Less
+pub mod Checked
 pub mod Integers
 pub mod Finite
 pub mod Numbers

@@ -1,7 +1,9 @@
 -- What an operator gives is never the double that is not a number. Assumes nothing.
+use Rattle.std.specs.Prelude.{Err, Ok}
 use mathlib.Core.Path.{◌≡◌, refl, sym, subst, ◌∙◌}
 use mathlib.Core.Bool.{Bool, true, false, cond}
 use Prim.Native.Nat.{ℕ, zero, suc, ◌*◌, ◌^◌}
+use Rattle.sums.specs.Worth.{Worth}
 use lib.Dec.{T, ltb, leb, eqb}
 use lib.IntN.{ℤ, nat_abs, ◌+ℤ◌, ◌-ℤ◌, ◌*ℤ◌}
 use lib.Signed.{mag, quot_z, rem_z}
@@ -14,15 +16,13 @@ use Rattle.value.proofs.Sizes.{bits_value}
 use Rattle.doubles.specs.Rounds.{rounded_of, finite_sum}
 use Rattle.sums.specs.declared.Operator.{Operator}
 use Rattle.sums.specs.declared.Operator.TheVariants.{Add, Subtract, Multiply, Divide, Remainder, DoubleAdd}
-use Rattle.sums.specs.declared.Worth.{Worth}
-use Rattle.sums.specs.declared.Worth.TheVariants.{Is, Lost}
 use Rattle.sums.specs.Sums.{failed, is_number, fitted, exact_sum, nearest_sum, add_of, sub_of, mul_of, div_of, rem_of, plus_of, of_integers, of_doubles, result_of}
 use Rattle.sums.proofs.Finite.{number_is}
 
 -- what an operator gives is a number
 Number : Worth → Type 0
-Number (Is v) = T (is_number v)
-Number (Lost s) = Unit
+Number (Ok v) = T (is_number v)
+Number (Err s) = Unit
 
 number_if : (b : Bool) (v w : Worth) → Number v → Number w → Number (if b v w)
 number_if true v w h k = h
@@ -30,7 +30,7 @@ number_if false v w h k = k
 
 number_fitted : (z : ℤ) → Number (fitted z)
 unfolding Number
-number_fitted z = number_if (ltb (mag z) (2 ^ 63)) (Is (Integer z)) failed tt tt
+number_fitted z = number_if (ltb (mag z) (2 ^ 63)) (Ok (Integer z)) failed tt tt
 
 number_odd : (d : ℕ) (s : Bool) (q k l : ℕ) → T (is_number (Double (odd d s q k l)))
 unfolding odd is_nan
@@ -47,7 +47,7 @@ number_units s q k = go (ltb (q * 2 ^ k) (2 ^ 2098))
 
 number_nearest : (a b : ℕ) → Number (nearest_sum a b)
 unfolding Number
-number_nearest a b = number_if (finite_sum (exact_sum a b)) (Is (Double (rounded_of (leb (2 ^ 63) a) (leb (2 ^ 63) b) (exact_sum a b)))) failed (number_units _ _ _) tt
+number_nearest a b = number_if (finite_sum (exact_sum a b)) (Ok (Double (rounded_of (leb (2 ^ 63) a) (leb (2 ^ 63) b) (exact_sum a b)))) failed (number_units _ _ _) tt
 
 number_integers : (f : ℤ → ℤ → Worth) → ((x y : ℤ) → Number (f x y)) → (a b : Value) → Number (of_integers f a b)
 unfolding Number
@@ -71,10 +71,10 @@ number_result Add a b = number_integers add_of (λ x y. number_fitted (x +ℤ y)
 number_result Subtract a b = number_integers sub_of (λ x y. number_fitted (x -ℤ y)) a b
 number_result Multiply a b = number_integers mul_of (λ x y. number_fitted (x *ℤ y)) a b
 number_result Divide a b = number_integers div_of (λ x y. number_if (eqb (nat_abs y) 0) failed (fitted (quot_z x y)) tt (number_fitted (quot_z x y))) a b
-number_result Remainder a b = number_integers rem_of (λ x y. number_if (eqb (nat_abs y) 0) failed (Is (Integer (rem_z x y))) tt tt) a b
+number_result Remainder a b = number_integers rem_of (λ x y. number_if (eqb (nat_abs y) 0) failed (Ok (Integer (rem_z x y))) tt tt) a b
 number_result DoubleAdd a b = number_doubles a b
 
-pub result_number : (op : Operator) (a b v : Value) {w : Worth} → w ≡ result_of op a b → w ≡ Is v → T (is_number v)
+pub result_number : (op : Operator) (a b v : Value) {w : Worth} → w ≡ result_of op a b → w ≡ Ok v → T (is_number v)
 unfolding Number
 result_number op a b v e f = subst Number (sym e ∙ f) (number_result op a b)
 

@@ -1,19 +1,18 @@
 -- Document 02, 3, of operators: "integer add, subtract, multiply, divide (toward zero) and remainder (sign of the dividend)", and "A result that does not fit
 -- 64 bits, a zero divisor or a double that is not finite is Indeterminate; a remainder by -1 is 0". `proofs/Claims.antt` proves it of integers; what the sum of
 -- two doubles is, the crate `doubles` claims. Assumes nothing.
-use Rattle.std.specs.Prelude.{ℕ, ◌-◌, ◌*◌, ◌^◌, ◌<◌, ◌≤◌, ◌≡◌, true, ℤ, pos, negsuc, nat_abs, ◌+ℤ◌, ◌-ℤ◌, ◌*ℤ◌}
+use Rattle.std.specs.Prelude.{ℕ, ◌-◌, ◌*◌, ◌^◌, ◌<◌, ◌≤◌, ◌≡◌, true, ℤ, pos, negsuc, nat_abs, ◌+ℤ◌, ◌-ℤ◌, ◌*ℤ◌, Ok}
 use Rattle.std.specs.Int.Signed.{mag, lt_z, le_z, quot_z, rem_z}
 use Rattle.record.specs.Choose.{if, both}
 use Rattle.value.specs.declared.Value.{Value}
 use Rattle.value.specs.declared.Value.TheVariants.{Integer, Name, Double}
 use Rattle.sums.specs.declared.Operator.{Operator}
 use Rattle.sums.specs.declared.Operator.TheVariants.{Add, Subtract, Multiply, Divide, Remainder}
-use Rattle.sums.specs.declared.Worth.TheVariants.{Is}
 use Rattle.sums.specs.Sums.{failed, fitted, result_of, kind_of}
 
 -- a result is given, as it is, exactly from -2 ^ 63 to 2 ^ 63 - 1
 abbrev pub FitsIs : Type 0
-FitsIs = (z : ℤ) → fitted z ≡ if (both (le_z (negsuc (2 ^ 63 - 1)) z) (le_z z (pos (2 ^ 63 - 1)))) (Is (Integer z)) failed
+FitsIs = (z : ℤ) → fitted z ≡ if (both (le_z (negsuc (2 ^ 63 - 1)) z) (le_z z (pos (2 ^ 63 - 1)))) (Ok (Integer z)) failed
 
 -- add, subtract and multiply give the exact sum, difference and product, where it fits
 abbrev pub ExactFirst : Type 0
@@ -31,7 +30,7 @@ NoneByZero = (x : ℤ) → (result_of Divide (Integer x) (Integer (pos 0)) ≡ f
 abbrev pub QuotientAndRemainder : Type 0
 QuotientAndRemainder =
     (x y : ℤ) → (nat_abs y ≡ 0 → ⊥)
-    → (result_of Divide (Integer x) (Integer y) ≡ fitted (quot_z x y)) × (result_of Remainder (Integer x) (Integer y) ≡ Is (Integer (rem_z x y)))
+    → (result_of Divide (Integer x) (Integer y) ≡ fitted (quot_z x y)) × (result_of Remainder (Integer x) (Integer y) ≡ Ok (Integer (rem_z x y)))
 
 -- q is the quotient of x by y toward zero, and r is the remainder, which is smaller in size than y and is 0 or has the sign of x
 pub record Divided (x y q r : ℤ) : Type 0 where
@@ -47,7 +46,7 @@ DividesTowardZero = (x y : ℤ) → (nat_abs y ≡ 0 → ⊥) → Divided x y (q
 
 -- the remainder of any number by -1 is 0
 abbrev pub RemainderByMinusOne : Type 0
-RemainderByMinusOne = (x : ℤ) → result_of Remainder (Integer x) (Integer (negsuc 0)) ≡ Is (Integer (pos 0))
+RemainderByMinusOne = (x : ℤ) → result_of Remainder (Integer x) (Integer (negsuc 0)) ≡ Ok (Integer (pos 0))
 
 -- the least number by -1 has no quotient that fits
 abbrev pub LeastByMinusOne : Type 0

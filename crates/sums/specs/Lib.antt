@@ -1,3 +1,4 @@
+pub mod Worth
 pub mod Sums
 pub mod Bytes
 pub mod Equal

@@ -1,8 +1,9 @@
 -- What the operators of document 02, 3 give: a value, or none. Assumes nothing.
-use Rattle.std.specs.Prelude.{ℕ, suc, ◌-◌, ◌^◌, Bool, true, false, not, ltb, leb, eqb, ℤ, pos, negsuc, nat_abs, ◌+ℤ◌, ◌-ℤ◌, ◌*ℤ◌, Float}
+use Rattle.std.specs.Prelude.{ℕ, suc, ◌-◌, ◌^◌, Bool, true, not, ltb, leb, eqb, ℤ, pos, negsuc, nat_abs, ◌+ℤ◌, ◌-ℤ◌, ◌*ℤ◌, Float, Option, Some, None, Err, Ok}
 use Rattle.std.specs.Int.Signed.{mag, quot_z, rem_z}
 use Rattle.std.specs.Float.{binary64}
 use Rattle.std.specs.Float.Ieee.{is_nan, to_bits}
+use Rattle.sums.specs.Worth.{Word, Worth}
 use Rattle.record.specs.Choose.{if}
 use Rattle.value.specs.Units.{units_of}
 use Rattle.doubles.specs.Rounds.{rounded_of, finite_sum}
@@ -11,18 +12,19 @@ use Rattle.value.specs.declared.Value.TheVariants.{Integer, Name, Double}
 use Rattle.sums.specs.declared.Operator.{Operator}
 use Rattle.sums.specs.declared.Operator.TheVariants.{Add, Subtract, Multiply, Divide, Remainder, DoubleAdd}
 use Rattle.sums.specs.declared.Status.TheVariants.{Processing}
-use Rattle.sums.specs.declared.Worth.{Worth}
-use Rattle.sums.specs.declared.Worth.TheVariants.{Is, Lost}
-use Rattle.sums.specs.declared.Word.{Word}
-use Rattle.sums.specs.declared.Word.TheVariants.{Holds, Nothing}
 
 -- a failed sum is a processing error (document 02, section 4)
 abbrev pub failed : Worth
-failed = Lost Processing
+failed = Err Processing
 
 -- the whole number, if 64 bits hold it: `mag z` is n both for n and for -(n + 1)
 abbrev pub fitted : ℤ → Worth
-fitted z = if (ltb (mag z) (2 ^ 63)) (Is (Integer z)) failed
+fitted z = if (ltb (mag z) (2 ^ 63)) (Ok (Integer z)) failed
+
+-- the number that is given, if there is one
+abbrev pub whole_of : Option ℤ → Worth
+whole_of None = failed
+whole_of (Some z) = Ok (Integer z)
 
 abbrev pub add_of : ℤ → ℤ → Worth
 add_of x y = fitted (x +ℤ y)
@@ -39,7 +41,7 @@ div_of x y = if (eqb (nat_abs y) 0) failed (fitted (quot_z x y))
 
 -- with the dividend's sign; a zero divisor gives none. It always fits, and by -1 it is 0
 abbrev pub rem_of : ℤ → ℤ → Worth
-rem_of x y = if (eqb (nat_abs y) 0) failed (Is (Integer (rem_z x y)))
+rem_of x y = if (eqb (nat_abs y) 0) failed (Ok (Integer (rem_z x y)))
 
 -- the exact sum of two doubles, by their eight bytes, as a whole number of units of two to the power -1074
 abbrev pub exact_sum : ℕ → ℕ → ℤ
@@ -47,7 +49,7 @@ exact_sum a b = units_of a +ℤ units_of b
 
 -- the double nearest to it, if that is finite; the top bit of eight bytes is the sign
 abbrev pub nearest_sum : ℕ → ℕ → Worth
-nearest_sum a b = if (finite_sum (exact_sum a b)) (Is (Double (rounded_of (leb (2 ^ 63) a) (leb (2 ^ 63) b) (exact_sum a b)))) failed
+nearest_sum a b = if (finite_sum (exact_sum a b)) (Ok (Double (rounded_of (leb (2 ^ 63) a) (leb (2 ^ 63) b) (exact_sum a b)))) failed
 
 abbrev pub plus_of : Float → Float → Worth
 plus_of x y = nearest_sum (to_bits binary64 x) (to_bits binary64 y)
@@ -97,16 +99,11 @@ bytes_of (Double x) = to_bits binary64 x
 
 -- a worth, in bytes
 abbrev pub in_bytes : Worth → Word
-in_bytes (Is v) = Holds (bytes_of v)
-in_bytes (Lost s) = Nothing s
+in_bytes (Ok v) = Ok (bytes_of v)
+in_bytes (Err s) = Err s
 
 -- an integer, a name or a double that is a number
 abbrev pub is_number : Value → Bool
 is_number (Integer x) = true
 is_number (Name n) = true
 is_number (Double x) = not (is_nan x)
-
--- whether two signs differ
-abbrev pub differ : Bool → Bool → Bool
-differ true b = not b
-differ false b = b

@@ -1,4 +1,5 @@
 -- Reading and writing undo one another: `specs/RoundTrip.antt`'s claims. Assumes nothing.
+use Rattle.std.specs.Prelude.{Ok}
 use mathlib.Core.Path.{◌≡◌, refl, sym, ap, subst, ◌∙◌}
 use mathlib.Core.Bool.{Bool, true}
 use mathlib.Core.List.{List, map}
@@ -16,8 +17,6 @@ use Rattle.record.proofs.Table.{get_d_tab, length_tab}
 use Rattle.text.specs.Hex.{letter_of, digit_value, is_digit}
 use Rattle.text.specs.Text.{short_size, digits, lf, line_length, start, width, text_at, byte_at, digit_at, good_line, judge_from, read_of, write_of}
 use Rattle.text.specs.RoundTrip.{upper, zero_digit, ComesBack, WrittenIsRead, ReadIsWritten, lengthened, ShortIsLengthened, restored, ReadIsRestored}
-use Rattle.text.specs.declared.Filled.TheVariants.{Places}
-use Rattle.text.specs.declared.Judged.TheVariants.{Lines}
 use Rattle.text.proofs.Laws.{value_small}
 use Rattle.text.proofs.Letters.{letter_last, letter_value, value_letter, digit_letter, digit_no_lf, capital_no_lf}
 use Rattle.text.proofs.Widths.{start_first, start_long, width_long, width_none, width_within, width_either, said, unsaid}
@@ -98,7 +97,7 @@ module _ (r : List ℕ) (n : ℕ) where
       (rw (at_even (i / size) (i % size) (omega arith) (omega arith), at_odd (i / size) (i % size) (omega arith) (omega arith), k)
       (simp (value_letter (get_or r i 0 / 16), value_letter (get_or r i 0)) (omega (arith, bytes i)))))
 
-  judged_back : (most : ℕ) → n ≤ most → judge_from size (tab (text_at r) (line_length size * n)) most 0 ≡ Lines n
+  judged_back : (most : ℕ) → n ≤ most → judge_from size (tab (text_at r) (line_length size * n)) most 0 ≡ Ok n
   unfolding start
   judged_back most h = judge_good size (tab (text_at r) (line_length size * n)) most 0 n (length_tab (text_at r) (line_length size * n)) zero-le (omega arith) (λ j _ g. line_back j g)
 
@@ -107,10 +106,10 @@ written_is_read k r room room' m bytes w h =
     let v : WasWritten k room r m = was_written k r room m w in
     let n : ℕ = length r / size in
     let l : size * n ≡ length r = omega (arith, v.whole) in
-    let back : read_of k (tab (text_at r) (line_length size * n)) room' ≡ Places (size * n) =
+    let back : read_of k (tab (text_at r) (line_length size * n)) room' ≡ Ok (size * n) =
     read_done k (tab (text_at r) (line_length size * n)) room' n (sym (width_back r n)) (judged_back r n k.most v.few) (sym (missing_lines k n) ∙ rw l v.some) (omega arith) in
     rw v.is (
-      back ∙ ap Places l,
+      back ∙ ap Ok l,
       ext_get_or 0 _ r (length_tab _ (length r)) (λ i g. get_d_tab _ (length r) i (rw length_tab at g) ∙ byte_back r n bytes i (omega (arith, length_tab (byte_at (tab (text_at r) (line_length size * n))) (length r)))),
     )
 
@@ -208,9 +207,9 @@ comes_back s other same k room room' m w h =
     let z : length other ≡ line_length size * n = ap length (sym e) ∙ length_tab _ (line_length size * n) in
     let long : length (tab (byte_at s) (size * n)) ≡ size * n = length_tab (byte_at s) (size * n) in
     let d : length (tab (byte_at s) (size * n)) / size ≡ n = omega arith in
-    let done : write_of k (tab (byte_at s) (size * n)) room' ≡ Places (line_length size * (length (tab (byte_at s) (size * n)) / size)) =
+    let done : write_of k (tab (byte_at s) (size * n)) room' ≡ Ok (line_length size * (length (tab (byte_at s) (size * n)) / size)) =
     write_done k (tab (byte_at s) (size * n)) room' (rw long (missing_lines k n ∙ v.some)) (omega arith) (omega (arith, l.few)) (omega arith) in
-    rw (v.is, z) (done ∙ ap (λ (x : ℕ). Places (line_length size * x)) d, e)
+    rw (v.is, z) (done ∙ ap (λ (x : ℕ). Ok (line_length size * x)) d, e)
 
 -- the text that the records of n lines make, by the width
 long_made : (s : List ℕ) → Bytes s → width s ≡ size → {most : ℕ} (n : ℕ) → Lined (width s) s most 0 n → tab (text_at (tab (byte_at s) (size * n))) (line_length size * n) ≡ map upper s

@@ -1,10 +1,10 @@
 -- Where lines begin, and how many bytes they say: laws of `specs/Text.antt`'s `start` and `width`. Assumes nothing.
-use mathlib.Core.Path.{◌≡◌, refl, sym, ◌∙◌}
+use mathlib.Core.Path.{◌≡◌, refl, ◌∙◌}
 use mathlib.Core.Bool.{Bool, true, false}
 use mathlib.Core.List.{List}
 use mathlib.Core.Logic.{◌⊎◌, inl, inr}
-use Prim.Native.Nat.{ℕ, ◌+◌, ◌*◌, ◌/◌, ◌%◌, ◌<◌, ◌≤◌, min}
-use native.Mathlib.Nat.{add-zero, mul_comm, mul-le-mul_left, mul-le-mul_right, mul-add-div, div-eq_of_lt, le-div_iff_mul-le, div-lt_iff_lt-mul, min-eq_left, min-eq_right}
+use Prim.Native.Nat.{ℕ, ◌+◌, ◌*◌, ◌/◌, ◌%◌, ◌<◌, ◌≤◌}
+use native.Mathlib.Nat.{add-zero, mul-le-mul_left, mul-le-mul_right, mul-add-div, div-eq_of_lt}
 use native.Mathlib.Omega.{arith}
 use borrow.Author.Tests.{lt-ltb, le-ltb, eq-eqb, ne_eqb}
 use lib.Dec.{eqb}
@@ -48,22 +48,6 @@ start_most w n h = let g : line_length w ≤ line_length size = omega arith in m
 pub line_of : (w n j : ℕ) → j < line_length w → (start w n + j) / line_length w ≡ n
 unfolding start
 line_of w n j h = let some : 0 < line_length w = omega arith in mul-add-div some n j ∙ rw (div-eq_of_lt h) (add-zero n)
-
--- where the first n lines of a text end
-module _ (w long n : ℕ) where
-  some : 0 < line_length w
-  some = omega arith
-
-  pub lines_beyond : long / line_length w < n → long ≡ min (start w n) long
-  unfolding start
-  lines_beyond h = let g : long < n * line_length w = (div-lt_iff_lt-mul some).0 h in sym (min-eq_right (omega (arith, g, mul_comm n (line_length w))))
-
-  pub lines_within : n ≤ long / line_length w → n * line_length w ≤ long
-  lines_within h = (le-div_iff_mul-le some).0 h
-
-  pub lines_end : n ≤ long / line_length w → n * line_length w ≡ min (start w n) long
-  unfolding start
-  lines_end h = mul_comm n (line_length w) ∙ sym (min-eq_left (omega (arith, lines_within h, mul_comm n (line_length w))))
 
 -- there are two widths
 pub width_short : (s : List ℕ) → get_or s (digits short_size) 0 ≡ lf → width s ≡ short_size

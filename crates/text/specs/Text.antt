@@ -1,17 +1,25 @@
 -- The text of a book or a request, and what reading and writing it give, in the order of document 01. Assumes nothing.
-use Rattle.std.specs.Prelude.{ℕ, zero, suc, ◌+◌, ◌*◌, ◌/◌, ◌%◌, Bool, true, false, List, ◌++◌, ltb, leb, eqb, length, get_or, drop}
+use Rattle.std.specs.Prelude.{ℕ, zero, suc, ◌+◌, ◌*◌, ◌/◌, ◌%◌, Bool, true, false, List, ◌++◌, ltb, leb, eqb, length, get_or, drop, Result, Ok, Err}
 use Rattle.record.specs.Choose.{if, both}
 use Rattle.record.specs.Bytes.{size, most_records, most_entries}
+use Rattle.record.specs.declared.Part.{Part}
+use Rattle.record.specs.declared.Refusal.{Refusal}
 use Rattle.record.specs.Refusals as refusals
 use Rattle.record.specs.Refusals.{bad_line, too_many, no_record, cut_short, no_room}
 use Rattle.record.specs.Below.{all_below}
 use Rattle.record.specs.Table.{tab}
 use Rattle.text.specs.Hex.{is_digit, digit_value, letter_of}
 use Rattle.text.specs.declared.Kind.{Kind}
-use Rattle.text.specs.declared.Judged.{Judged}
-use Rattle.text.specs.declared.Judged.TheVariants.{Lines, Wrong, Over}
-use Rattle.text.specs.declared.Filled.{Filled}
-use Rattle.text.specs.declared.Filled.TheVariants.{Places, Refused}
+use Rattle.text.specs.declared.Fault.{Fault}
+use Rattle.text.specs.declared.Fault.TheVariants.{Wrong, Over}
+
+-- how the lines of a text stand: so many, all good, or what is wrong
+abbrev pub Judged : Type 0
+Judged = Result ℕ Fault
+
+-- what reading and writing answer: so many places of the output are filled, or nothing is
+abbrev pub Filled : Type 0
+Filled = Result ℕ Refusal
 
 -- a book is 1 to 1,000 records
 abbrev pub book : Kind
@@ -61,19 +69,24 @@ good_line w text at =
 
 -- a text is judged line by line, 2 before 1 on each line: here from line n + 1 on, of which there may be so many more
 unfoldable pub judge_from : ℕ → List ℕ → ℕ → ℕ → Judged
-judge_from w text zero n = if (leb (length text) (start w n)) (Lines n) Over
+judge_from w text zero n = if (leb (length text) (start w n)) (Ok n) (Err Over)
 judge_from w text (suc more) n =
-    if (leb (length text) (start w n)) (Lines n)
-    (if (good_line w text (start w n)) (judge_from w text more (n + 1)) (Wrong (n + 1)))
+    if (leb (length text) (start w n)) (Ok n)
+    (if (good_line w text (start w n)) (judge_from w text more (n + 1)) (Err (Wrong (n + 1))))
+
+-- what is told of a fault in this part
+abbrev pub refusal_of : Part → Fault → Refusal
+refusal_of part Over = too_many part
+refusal_of part (Wrong line) = bad_line part line
 
 -- then 3; then 7: what reading answers, by how the lines were judged
 unfoldable pub read_judged : Kind → Judged → ℕ → Filled
-read_judged k Over room = Refused (too_many k.part)
-read_judged k (Wrong line) room = Refused (bad_line k.part line)
-read_judged k (Lines n) room =
-    if (missing k n) (Refused (no_record k.part))
-    (if (ltb room (size * n)) (Refused no_room)
-    (Places (size * n)))
+read_judged k (Err Over) room = Err (too_many k.part)
+read_judged k (Err (Wrong line)) room = Err (bad_line k.part line)
+read_judged k (Ok n) room =
+    if (missing k n) (Err (no_record k.part))
+    (if (ltb room (size * n)) (Err no_room)
+    (Ok (size * n)))
 
 -- what reading answers, by the text and the places of the output
 unfoldable pub read_of : Kind → List ℕ → ℕ → Filled
@@ -90,11 +103,11 @@ byte_at text i =
 unfoldable pub write_of : Kind → List ℕ → ℕ → Filled
 write_of k records room =
     let n = length records / size in
-    if (missing k (length records)) (Refused (no_record k.part))
-    (if (ltb 0 (length records % size)) (Refused (cut_short k.part))
-    (if (ltb k.most n) (Refused (too_many k.part))
-    (if (ltb room (line_length size * n)) (Refused no_room)
-    (Places (line_length size * n)))))
+    if (missing k (length records)) (Err (no_record k.part))
+    (if (ltb 0 (length records % size)) (Err (cut_short k.part))
+    (if (ltb k.most n) (Err (too_many k.part))
+    (if (ltb room (line_length size * n)) (Err no_room)
+    (Ok (line_length size * n)))))
 
 -- byte j of the text that records make, in capitals: LF at the end of each line, and the upper half of a byte before the lower
 unfoldable pub text_at : List ℕ → ℕ → ℕ
@@ -105,5 +118,5 @@ text_at records j =
 
 -- what a lent output holds after the answer: only the places that are filled have changed
 unfoldable pub output_after : (ℕ → ℕ) → Filled → List ℕ → List ℕ
-output_after at (Places m) out = tab at m ++ drop m out
-output_after at (Refused r) out = out
+output_after at (Ok m) out = tab at m ++ drop m out
+output_after at (Err r) out = out

@@ -1,10 +1,10 @@
 -- The lines of ticks. Assumes nothing.
 use mathlib.Core.Path.{◌≡◌, refl, sym, ap, ◌∙◌}
-use mathlib.Core.List.{List, [], ◌∷◌}
+use mathlib.Core.List.{List, [], ◌∷◌, ◌++◌}
 use Prim.Native.Nat.{ℕ, ◌/◌, ◌≤◌}
 use native.Mathlib.Omega.{arith}
 use borrow.Author.Tests.{le-leb}
-use lib.ListN.{length, take, drop, set, length-append, length-take}
+use lib.ListN.{length, take, drop, length-append, length-take}
 use Rattle.record.specs.Bytes.{most_records}
 use Rattle.record.specs.declared.Refusal.{Refusal}
 use Rattle.text.specs.Hex.{letter_of}
@@ -25,13 +25,9 @@ steps_are n =
     rw (e, f)
 
 -- the line of an answer stands first, whole
-pub running_put : (l places : List ℕ) {a : Answer} → longest ≤ length l → a ≡ Running
-    → Leads (answer_line a places) l (set (set (set l 0 48) 1 48) 2 10) 3
+pub running_put : (l places : List ℕ) {a : Answer} {x : List ℕ} → x ≡ 48 ∷ 48 ∷ 10 ∷ [] → a ≡ Running → Leads (answer_line a places) l (x ++ drop 3 l) 3
 unfolding answer_line hex_of letter_of
-running_put [] places h e = absurd (omega arith)
-running_put (x ∷ []) places h e = absurd (omega arith)
-running_put (x ∷ y ∷ []) places h e = absurd (omega arith)
-running_put (x ∷ y ∷ z ∷ l) places h e = rw e (record { taken = refl; leaves = refl })
+running_put l places p e = rw (e, p) (record { taken = refl; leaves = refl })
 
 module _ (l places : List ℕ) {later : List ℕ} {n : ℕ} (room : longest ≤ length l) (few : length places ≤ most_records) where
   found : (line : List ℕ) → length line ≤ longest → n ≡ places_of line (length l) → later ≡ put line l → Leads line l later n

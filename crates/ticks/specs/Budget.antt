@@ -1,9 +1,7 @@
 -- A word as a budget. Assumes nothing.
-use Rattle.std.specs.Prelude.{ℕ, zero, suc, ◌+◌, ◌-◌, ◌*◌, Bool, List, ltb, leb, length, get_or}
+use Rattle.std.specs.Prelude.{ℕ, zero, suc, ◌+◌, ◌-◌, ◌*◌, Bool, List, ltb, leb, length, get_or, Option, Some, None}
 use Rattle.record.specs.Choose.{if, both, among}
 use Rattle.record.specs.Below.{all_below}
-use Rattle.ticks.specs.declared.budget.Budget.{Budget}
-use Rattle.ticks.specs.declared.budget.Budget.TheVariants.{Steps, Wrong}
 
 -- byte i is a decimal digit
 abbrev pub is_decimal : List ℕ → ℕ → Bool
@@ -19,7 +17,7 @@ abbrev pub largest : ℕ
 largest = 18446744073709551615
 
 -- a budget is one or more decimal digits, and no larger than that
-unfoldable pub budget_of : List ℕ → Budget
+unfoldable pub budget_of : List ℕ → Option ℕ
 budget_of word =
     let n = length word in
-    if (both (ltb 0 n) (both (all_below (is_decimal word) n) (leb (decimal_of word n) largest))) (Steps (decimal_of word n)) Wrong
+    if (both (ltb 0 n) (both (all_below (is_decimal word) n) (leb (decimal_of word n) largest))) (Some (decimal_of word n)) None

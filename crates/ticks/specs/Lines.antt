@@ -1,5 +1,6 @@
 -- What a tick prints: the steps taken, a space, and its answer; and what it leaves to the next. Assumes nothing.
-use Rattle.std.specs.Prelude.{ℕ, ◌≡◌, Bool, true, false, List, [], ◌∷◌, ◌++◌, length, take, drop, replicate}
+use Rattle.std.specs.Prelude.{ℕ, ◌≡◌, Bool, true, false, List, [], ◌∷◌, ◌++◌, length, take, drop, replicate, Option}
+use Rattle.std.specs.Bool.{then_some}
 use Rattle.record.specs.Bytes.{most_records}
 use Rattle.text.specs.Text.{lf}
 use Rattle.line.specs.Line.{hex_of, decision_line, refusal_line}
@@ -9,7 +10,6 @@ use Rattle.layout.specs.declared.State.{State}
 use Rattle.run.specs.Tick.{tick_of}
 use Rattle.run.specs.declared.kinds.Answer.{Answer}
 use Rattle.run.specs.declared.kinds.Answer.TheVariants.{Running, Finished, Refused}
-use Rattle.ticks.specs.declared.After.{After}
 
 -- steps taken: 4 digits (a run takes no more steps than there are entries, so they are enough), and a space
 unfoldable pub steps_of : ℕ → List ℕ
@@ -32,8 +32,8 @@ is_running Running = true
 is_running (Finished d n) = false
 is_running (Refused r) = false
 
--- what a tick leaves whose places were all zero: the state, and whether the run goes on
-unfoldable pub after_of : List ℕ → List ℕ → State → ℕ → After
+-- what a tick leaves whose places were all zero: the state, if the run goes on
+unfoldable pub after_of : List ℕ → List ℕ → State → ℕ → Option State
 after_of p q s budget =
     let t = (tick_of p q s budget (replicate most_records 0)).tick in
-    record { state = t.state; running = is_running t.answer }
+    then_some (is_running t.answer) t.state

@@ -2,35 +2,19 @@
 ghost use Rattle.std.specs.Prelude.{◌≡◌};
 ghost use Rattle.ticks.specs.Budget.{budget_of};
 
-#[derive(Clone, Copy)]
-pub enum Budget {
-    Steps(u64),
-    Wrong,
-}
-
-// The number that decimal digits say. Any other word, an empty one, and a number above the largest of 64 bits are wrong.
-pub fn budget_in(word: &[u8]) -> Budget
+// The number that decimal digits say. Any other word, an empty one, and a number above the largest of 64 bits are no budget.
+pub fn budget_in(word: &[u8]) -> Option<u64>
     ensures { result ≡ budget_of word.now }
 {
-    if word.len() == 0 {
-        return Budget::Wrong;
+    if word.is_empty() {
+        return None;
     }
     let mut n: u64 = 0;
-    let mut i = 0;
-    while i < word.len() {
-        let c = word[i];
-        if c < b'0' {
-            return Budget::Wrong;
+    for c in word {
+        if !c.is_ascii_digit() {
+            return None;
         }
-        if b'9' < c {
-            return Budget::Wrong;
-        }
-        let digit = (c - b'0') as u64;
-        if (18446744073709551615 - digit) / 10 < n {
-            return Budget::Wrong;
-        }
-        n = 10 * n + digit;
-        i += 1;
+        n = n.checked_mul(10)?.checked_add(u64::from(*c - b'0'))?;
     }
-    Budget::Steps(n)
+    Some(n)
 }

@@ -28,9 +28,7 @@ pub fn answer_line(answer: Answer, places: &[u16], out: &mut [u8]) -> usize
 {
     match answer {
         Answer::Running => {
-            out[0] = b'0';
-            out[1] = b'0';
-            out[2] = text::LF;
+            out[..3].copy_from_slice(b"00\n");
             3
         }
         Answer::Finished(verdict, count) => line::decision_line(

@@ -1,31 +1,27 @@
 // Translates BOOK.HEX, runs the programme for a request tick by tick, and prints a line a tick. The arguments are budgets, one a tick; the last is
 // repeated until the run is finished, unless it is 0. Without arguments a tick has 300 steps.
+// Kept: `as` between usize and u64, since there is no `From` between them.
 #![tactic(auto)]
 
 ghost use Rattle.std.specs.Prelude.{◌≡◌, ◌<◌, ◌≤◌, length, IfOk};
 ghost use Rattle.record.specs.Bytes.{most_records};
 ghost use Rattle.ticks.specs.Lines.{is_running, after_of};
 
-use budget::Budget;
 use layout::State;
 use record::Refusal;
 use run::kinds::Answer;
 use std::env::FillError;
 use std::io;
 use std::rt::Env;
-use text::Filled;
-use translator::Translated;
 
 mod budget;
 mod lines;
 
 // Argument i as a budget. The system takes no argument that is longer than the buffer.
-fn argument(rt: &impl Env, i: usize) -> Budget {
+fn argument(rt: &impl Env, i: usize) -> Option<u64> {
     let mut word = [0u8; 131072];
-    match rt.arg(i, &mut word) {
-        Ok(n) => budget::budget_in(&word[..n]),
-        Err(_) => Budget::Wrong,
-    }
+    let n = rt.arg(i, &mut word).ok()?;
+    budget::budget_in(&word[..n])
 }
 
 // How many arguments there are, the program's name among them.
@@ -40,17 +36,9 @@ fn argument_count(rt: &impl Env) -> usize {
     usize::MAX
 }
 
-// The first argument that is no budget, or 0.
-fn first_wrong(rt: &impl Env, count: usize) -> usize {
-    let mut i = 1;
-    while i < count {
-        match argument(rt, i) {
-            Budget::Steps(_) => {}
-            Budget::Wrong => return i,
-        }
-        i += 1;
-    }
-    0
+// The first argument that is no budget.
+fn first_wrong(rt: &impl Env, count: usize) -> Option<usize> {
+    (1..count).find(|i| argument(rt, *i).is_none())
 }
 
 fn complain(rt: &impl Eprint, i: usize) {
@@ -78,39 +66,23 @@ fn refuse(rt: &impl Print, refusal: Refusal) -> io::Result<()> {
 fn is_running(answer: Answer) -> bool
     ensures { result ≡ is_running answer }
 {
-    match answer {
-        Answer::Running => true,
-        Answer::Finished(_, _) => false,
-        Answer::Refused(_) => false,
-    }
+    matches!(answer, Answer::Running)
 }
 
-// What is left after a tick.
-#[derive(Clone, Copy)]
-struct After {
-    state: State,
-    running: bool,
-}
-
-// A tick, and its line printed.
+// A tick, and its line printed: the state to go on with, if the run goes on.
 fn turn(
     rt: &impl Print,
     programme: &[u64],
     request: &[u8],
     state: State,
     budget: u64,
-) -> io::Result<After>
+) -> io::Result<Option<State>>
     ensures { IfOk result (λ after. after ≡ after_of programme.now request.now state budget) }
 {
     let mut places = [0u16; layout::PLACES];
     let ticked = run::tick(programme, request, state, budget, &mut places);
-    let answer = ticked.answer;
-    show(rt, ticked.steps, answer, &places)?;
-    let after = ticked.state;
-    Ok(After {
-        state: after,
-        running: is_running(answer),
-    })
+    show(rt, ticked.steps, ticked.answer, &places)?;
+    Ok(is_running(ticked.answer).then_some(ticked.state))
 }
 
 // Ticks of one budget, until the run is finished. Each takes a step or finishes it, and a run takes no more than 8,008 steps: the count of ticks is
@@ -123,27 +95,16 @@ fn repeat(
     budget: u64,
 ) -> io::Result<()> {
     let mut state = start;
-    let mut left: usize = 8009;
-    while 0 < left {
-        let t = turn(rt, programme, request, state, budget)?;
-        if !t.running {
+    for _ in 0..8009 {
+        let Some(next) = turn(rt, programme, request, state, budget)? else {
             return Ok(());
-        }
-        state = t.state;
-        left -= 1;
+        };
+        state = next;
     }
     Ok(())
 }
 
-// The budget of argument i, which is one.
-fn given(rt: &impl Env, i: usize) -> u64 {
-    match argument(rt, i) {
-        Budget::Steps(n) => n,
-        Budget::Wrong => 0,
-    }
-}
-
-// Ticks of the budgets that the arguments give.
+// Ticks of the budgets that the arguments give, each of which is one.
 fn deal(
     rt: &(impl Env + Print),
     programme: &[u64],
@@ -152,20 +113,17 @@ fn deal(
 ) -> io::Result<()> {
     let mut state = run::fresh();
     let mut budget: u64 = 300;
-    let mut i = 1;
-    while i < count {
-        budget = given(rt, i);
-        let t = turn(rt, programme, request, state, budget)?;
-        if !t.running {
+    for i in 1..count {
+        budget = argument(rt, i).unwrap_or(0);
+        let Some(next) = turn(rt, programme, request, state, budget)? else {
             return Ok(());
-        }
-        state = t.state;
-        i += 1;
+        };
+        state = next;
     }
-    if 0 < budget {
-        return repeat(rt, programme, request, state, budget);
+    if budget == 0 {
+        return Ok(());
     }
-    Ok(())
+    repeat(rt, programme, request, state, budget)
 }
 
 fn run_records(
@@ -176,8 +134,8 @@ fn run_records(
 ) -> io::Result<()> {
     let mut programme = [0u64; 8008];
     match translator::translate(book, &mut programme) {
-        Translated::Entries(n) => deal(rt, &programme[..n], request, count),
-        Translated::Refused(refusal) => refuse(rt, refusal),
+        Ok(n) => deal(rt, &programme[..n], request, count),
+        Err(refusal) => refuse(rt, refusal),
     }
 }
 
@@ -185,19 +143,18 @@ fn run_texts(rt: &(impl Env + Print), book: &[u8], request: &[u8], count: usize)
     let mut records = [0u8; record::BOOK];
     let mut entries = [0u8; record::REQUEST];
     match text::read_book(book, &mut records) {
-        Filled::Places(n) => match text::read_request(request, &mut entries) {
-            Filled::Places(m) => run_records(rt, &records[..n], &entries[..m], count),
-            Filled::Refused(refusal) => refuse(rt, refusal),
+        Ok(n) => match text::read_request(request, &mut entries) {
+            Ok(m) => run_records(rt, &records[..n], &entries[..m], count),
+            Err(refusal) => refuse(rt, refusal),
         },
-        Filled::Refused(refusal) => refuse(rt, refusal),
+        Err(refusal) => refuse(rt, refusal),
     }
 }
 
 // One byte more than a book and a request can have is read, so a longer text is refused.
 fn main(rt: HostRuntime) -> io::Result<()> {
     let count = argument_count(&rt);
-    let wrong = first_wrong(&rt, count);
-    if 0 < wrong {
+    if let Some(wrong) = first_wrong(&rt, count) {
         complain(&rt, wrong);
         return Ok(());
     }

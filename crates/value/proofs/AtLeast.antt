@@ -1,36 +1,15 @@
--- Greater or equal is greater, or equal: of numbers, of whole numbers and of doubles. Assumes nothing.
+-- Greater or equal is greater, or equal, of doubles too. Assumes nothing.
 use mathlib.Core.Path.{◌≡◌, refl, sym, ap, ◌∙◌}
 use mathlib.Core.Bool.{Bool, true, false, beq}
 use Prim.Native.Nat.{ℕ, ◌*◌}
-use native.Mathlib.Omega.{arith}
-use borrow.Author.Tests.{eqb-true, eqb-false, ltb-true, ltb-false, le-leb, lt-leb}
-use lib.Dec.{eqb, ltb, leb}
-use lib.IntN.{ℤ, pos, negsuc}
-use lib.Signed.{lt_z, le_z}
+use borrow.Author.Tests.{eqb-true}
+use lib.Dec.{eqb}
 use lib.Ieee.{Float, nan, inf, fin, up, down, level, lt, eq, le}
 use Rattle.record.specs.Choose.{either}
-use Rattle.value.specs.Value.{eq_z}
 use Rattle.value.proofs.Laws.{same_test}
 
 pub equal_swap : (a b : ℕ) → eqb a b ≡ eqb b a
 equal_swap a b = same_test a b b a sym sym
-
-at_least_number : (a b : ℕ) → leb b a ≡ either (ltb b a) (eqb a b)
-at_least_number a b = go (ltb b a) (eqb a b) refl refl
-  where
-    go : (x y : Bool) → ltb b a ≡ x → eqb a b ≡ y → leb b a ≡ either x y
-    go true y p q = let l = ltb-true b a p in le-leb b a (omega (arith, l))
-    go false true p q = let e = eqb-true a b q in le-leb b a (omega (arith, e))
-    go false false p q =
-        let l = ltb-false b a p in
-        let n = eqb-false a b q in
-        lt-leb b a (omega (arith, l, n))
-
-pub at_least_whole : (x y : ℤ) → le_z y x ≡ either (lt_z y x) (eq_z x y)
-at_least_whole (pos a) (pos b) = at_least_number a b
-at_least_whole (pos a) (negsuc b) = refl
-at_least_whole (negsuc a) (pos b) = refl
-at_least_whole (negsuc a) (negsuc b) = rw (equal_swap a b) (at_least_number b a)
 
 -- the equality of doubles, either way round
 sign_swap : (s t : Bool) → beq s t ≡ beq t s

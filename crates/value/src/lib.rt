@@ -4,7 +4,8 @@
 ghost use Rattle.std.specs.Prelude.{◌≡◌};
 ghost use Rattle.value.specs.Value.{signed64, finite_of, value_of, greater_of, equal_of, at_least_of, function_of, test_of};
 
-#[derive(Clone, Copy)]
+// Equal as the documents say: doubles as IEEE 754 has them, the two zeros too.
+#[derive(Clone, Copy, PartialEq)]
 pub enum Value {
     Integer(i64),
     Name(u64),
@@ -21,6 +22,8 @@ pub enum Function {
 }
 
 // The function of this number.
+// Kept: functions and no `From`, here and `value_of`: docs/CONTRACTS.md names both, and a number or a type byte is of no type of its own.
+#[tactic(auto, unfolding(crate::specs::Value::function_of))]
 pub fn function_of(n: usize) -> Function
     ensures { result ≡ function_of n }
 {
@@ -33,106 +36,62 @@ pub fn function_of(n: usize) -> Function
     }
 }
 
+// The bits of a double's fraction lie below this, 2^52; above them are its exponent, of 11 bits, and its sign.
+const FRACTION: u64 = 0x10_0000_0000_0000;
+
+const EXPONENTS: u64 = 2048;
+
 // Whether eight bytes, as a number, are those of a finite double: the 11 bits after the sign are not all ones.
+// Kept: by its bits, not `f64::from_bits(n).is_finite()`, since `from_bits` asks for bits that are no NaN, and here that is the question.
+#[tactic(auto, unfolding(crate::specs::Value::finite_of))]
 pub fn finite(n: u64) -> bool
     ensures { result ≡ finite_of n }
 {
-    n / 4503599627370496 % 2048 != 2047
+    n / FRACTION % EXPONENTS != EXPONENTS - 1
 }
 
-// The top bit of eight bytes alone, as a number: 2^63.
-const TOP_BIT: u64 = 9223372036854775808;
-
-// Eight bytes as a signed number: the unsigned number, less 2^64 when the top bit is set. No 64 bits hold 2^64, so n - 2^64 is
-// written -1 - (2^64 - 1 - n).
+// Eight bytes as a signed number: the unsigned number, less 2^64 when the top bit is set.
+#[tactic(auto, using(crate::proofs::Halves::signed_is))]
 pub fn signed(n: u64) -> i64
     ensures { result ≡ signed64 n }
 {
-    if n >= TOP_BIT {
-        let below = u64::MAX - n;
-        return -1 - below as i64;
-    }
-    n as i64
+    n.cast_signed()
 }
 
 // The value that eight bytes of the type kind stand for.
+#[tactic(auto, using(crate::proofs::Laws::finite_no_nan), unfolding(crate::specs::Value::value_of))]
 pub fn value_of(kind: usize, n: u64) -> Value
     ensures { result ≡ value_of kind n }
 {
-    if kind == 1 {
-        return Value::Integer(signed(n));
+    match kind {
+        1 => Value::Integer(signed(n)),
+        2 => Value::Name(n),
+        _ if finite(n) => Value::Double(f64::from_bits(n)),
+        _ => Value::Name(n),
     }
-    if kind == 2 {
-        return Value::Name(n);
-    }
-    if finite(n) {
-        return Value::Double(f64::from_bits(n));
-    }
-    Value::Name(n)
 }
 
 // The first is greater than the second.
 fn greater(a: Value, b: Value) -> bool
     ensures { result ≡ greater_of a b }
 {
-    match a {
-        Value::Integer(x) => match b {
-            Value::Integer(y) => x > y,
-            Value::Name(_) => false,
-            Value::Double(_) => false,
-        },
-        Value::Name(_) => false,
-        Value::Double(x) => match b {
-            Value::Integer(_) => false,
-            Value::Name(_) => false,
-            Value::Double(y) => x > y,
-        },
-    }
-}
-
-// The two are equal: doubles as IEEE 754 says, the two zeros too.
-fn equal(a: Value, b: Value) -> bool
-    ensures { result ≡ equal_of a b }
-{
-    match a {
-        Value::Integer(x) => match b {
-            Value::Integer(y) => x == y,
-            Value::Name(_) => false,
-            Value::Double(_) => false,
-        },
-        Value::Name(x) => match b {
-            Value::Integer(_) => false,
-            Value::Name(y) => x == y,
-            Value::Double(_) => false,
-        },
-        Value::Double(x) => match b {
-            Value::Integer(_) => false,
-            Value::Name(_) => false,
-            Value::Double(y) => x == y,
-        },
+    match (a, b) {
+        (Value::Integer(x), Value::Integer(y)) => x > y,
+        (Value::Double(x), Value::Double(y)) => x > y,
+        _ => false,
     }
 }
 
 // The first is greater than the second, or equal to it.
+#[tactic(auto, using(crate::proofs::AtLeast::at_least_double))]
 fn at_least(a: Value, b: Value) -> bool
     ensures { result ≡ at_least_of a b }
 {
-    match a {
-        Value::Integer(x) => match b {
-            Value::Integer(y) => x >= y,
-            Value::Name(_) => false,
-            Value::Double(_) => false,
-        },
-        Value::Name(x) => match b {
-            Value::Integer(_) => false,
-            Value::Name(y) => x == y,
-            Value::Double(_) => false,
-        },
-        Value::Double(x) => match b {
-            Value::Integer(_) => false,
-            Value::Name(_) => false,
-            Value::Double(y) => x >= y,
-        },
+    match (a, b) {
+        (Value::Integer(x), Value::Integer(y)) => x >= y,
+        (Value::Name(x), Value::Name(y)) => x == y,
+        (Value::Double(x), Value::Double(y)) => x >= y,
+        _ => false,
     }
 }
 
@@ -141,7 +100,7 @@ pub fn holds(f: Function, literal: Value, given: Value) -> bool
     ensures { result ≡ test_of f literal given }
 {
     match f {
-        Function::Equal => equal(literal, given),
+        Function::Equal => literal == given,
         Function::Greater => greater(literal, given),
         Function::GreaterOrEqual => at_least(literal, given),
         Function::Less => greater(given, literal),

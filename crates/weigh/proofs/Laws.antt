@@ -1,7 +1,9 @@
 -- What is read of the records of a value, and of the two values that an operator or a comparison has. Assumes nothing.
+use Rattle.std.specs.Prelude.{Err, Ok}
 use mathlib.Core.Path.{◌≡◌, refl, sym, ap, ◌∙◌}
 use mathlib.Core.List.{List, [], ◌∷◌}
 use Prim.Native.Nat.{ℕ, zero, suc, ◌+◌, ◌-◌, ◌*◌, ◌/◌, ◌%◌, ◌^◌, ◌<◌, ◌≤◌}
+use Rattle.sums.specs.Worth.{Word, Worth}
 use native.Mathlib.Omega.{arith}
 use borrow.Author.Tests.{ne_eqb}
 use Rattle.record.specs.Bytes.{size, byte_of, big_of}
@@ -13,10 +15,6 @@ use Rattle.sums.specs.Sums.{in_bytes, kind_of}
 use Rattle.sums.proofs.Bytes.{bytes_back}
 use Rattle.sums.specs.declared.Operator.{Operator}
 use Rattle.sums.specs.declared.Operator.TheVariants.{Add, Subtract, Multiply, Divide, Remainder, DoubleAdd}
-use Rattle.sums.specs.declared.Worth.{Worth}
-use Rattle.sums.specs.declared.Worth.TheVariants.{Is, Lost}
-use Rattle.sums.specs.declared.Word.{Word}
-use Rattle.sums.specs.declared.Word.TheVariants.{Holds}
 use Rattle.meaning.specs.Numbers.{key_by}
 use Rattle.meaning.specs.Policy.{Expr, operate, weighs, compares}
 use Rattle.meaning.specs.Meaning.{Bags, the_only, operated, type_of, worth, weighed, condition_of}
@@ -27,14 +25,14 @@ use Rattle.weigh.specs.Two.{second_in}
 
 -- words and worths
 operated_is : (o : Operator) (x y : Worth) → operated_of o (in_bytes x) (in_bytes y) ≡ in_bytes (operated o x y)
-operated_is o (Is x) (Is y) = refl
-operated_is o (Is x) (Lost s) = refl
-operated_is o (Lost s) y = refl
+operated_is o (Ok x) (Ok y) = refl
+operated_is o (Ok x) (Err s) = refl
+operated_is o (Err s) y = refl
 
 weighed_is : (f : Function) (k : ℕ) (x y : Worth) → weighed_of f k (in_bytes x) (in_bytes y) ≡ weighed f k x y
-weighed_is f k (Is x) (Is y) = refl
-weighed_is f k (Is x) (Lost s) = refl
-weighed_is f k (Lost s) y = refl
+weighed_is f k (Ok x) (Ok y) = refl
+weighed_is f k (Ok x) (Err s) = refl
+weighed_is f k (Err s) y = refl
 
 -- the first of two records below record i ends where the second begins
 pub second_behind : (b : List ℕ) (i stop : ℕ) {second : ℕ} → second ≡ second_in b i stop → second < stop → i + 1 < second
@@ -90,9 +88,9 @@ module _ (b : List ℕ) (i stop : ℕ) (h : i < stop) where
 
 -- the value at record i, by its choice
 module _ (g : Bags) (b : List ℕ) (i : ℕ) (es : List Expr) {c : ℕ} (C : c ≡ byte_of b i 1) where
-  pub literal_is : {n : ℕ} → c ≡ 1 → n ≡ big_of b (i * size + 8) 8 → n < 2 ^ 64 → Holds n ≡ in_bytes (worth g (expr_at b i es))
+  pub literal_is : {n : ℕ} → c ≡ 1 → n ≡ big_of b (i * size + 8) 8 → n < 2 ^ 64 → Ok n ≡ in_bytes (worth g (expr_at b i es))
   unfolding expr_at worth
-  literal_is e f s = rw (← C, e, ← f) (ap Holds (sym (bytes_back (byte_of b i 5) _ s)))
+  literal_is e f s = rw (← C, e, ← f) (ap Ok (sym (bytes_back (byte_of b i 5) _ s)))
 
   pub attribute_is : {w : Word} {k : ℕ} → c ≡ 2 → k ≡ key_at b i → w ≡ in_bytes (the_only (g (key_by k))) → w ≡ in_bytes (worth g (expr_at b i es))
   unfolding expr_at worth
@@ -105,11 +103,11 @@ module _ (b : List ℕ) (i : ℕ) {c : ℕ} (C : c ≡ byte_of b i 1) (one : c �
 
 -- an operator: without two operands, and with them
 module _ (g : Bags) (b : List ℕ) (i stop : ℕ) (h : i < stop) {c second : ℕ} (C : c ≡ byte_of b i 1) (one : c ≡ 1 → ⊥) (two : c ≡ 2 → ⊥) (e : second ≡ second_in b i stop) where
-  pub without_operands : {n : ℕ} → n ≡ big_of b (i * size + 8) 8 → n < 2 ^ 64 → second ≡ stop → Holds n ≡ in_bytes (worth g (expr_at b i (values b i stop h)))
+  pub without_operands : {n : ℕ} → n ≡ big_of b (i * size + 8) 8 → n < 2 ^ 64 → second ≡ stop → Ok n ≡ in_bytes (worth g (expr_at b i (values b i stop h)))
   unfolding worth
   without_operands {n} f l z =
       rw (is_operator_lem b i C one two (values b i stop h), few b i stop h (operate (operator_of c)) (spare_at b i) (sym e ∙ z), ← f)
-      (ap Holds (sym (bytes_back (kind_of (operator_of (byte_of b i 1))) n l)))
+      (ap Ok (sym (bytes_back (kind_of (operator_of (byte_of b i 1))) n l)))
 
   pub with_operands : {t : ℕ} {o : Operator} {x y r : Word} → (second ≡ stop → ⊥) → second ≤ stop → t ≡ span_in b second (stop - second)
       → x ≡ in_bytes (worth g (expr_at b (i + 1) (exprs_in b (forest b (i + 1 + 1) (second - (i + 1) - 1)))))

@@ -12,8 +12,12 @@ ghost use Rattle.weigh.specs.Words.{operated_of, weighed_of};
 ghost use Rattle.weigh.specs.Two.{second_in};
 
 use meaning::Truth;
+use record::choice::{ATTRIBUTE, LITERAL, WEIGHS};
 use sums::{Operator, Word};
 use value::Function;
+
+// The bit of must-be-present in bytes 4 to 7 of a record.
+const MUST: u32 = 0x80_0000;
 
 // The key of record i without its issuer: bytes 4 to 7, without must-be-present.
 fn bare_at(book: &[u8], i: usize) -> u32
@@ -22,9 +26,10 @@ fn bare_at(book: &[u8], i: usize) -> u32
 {
     let word = record::big4(book, i * record::SIZE + 4);
     if record::byte(book, i, 5) < 128 {
-        return word;
+        word
+    } else {
+        word - MUST
     }
-    word - 8388608
 }
 
 // The key of record i, of six bytes.
@@ -33,10 +38,11 @@ pub fn key_at(book: &[u8], i: usize) -> u64
     ensures { (result ≡ key_at book.now i) × (result < 281474976710656) }
 {
     let issuer = record::big2(book, i * record::SIZE + 16);
-    bare_at(book, i) as u64 + 4294967296 * issuer as u64
+    u64::from(bare_at(book, i)) + request::BARES * u64::from(issuer)
 }
 
 // The operator that a choice names.
+// Kept: choices as numbers: the definitions give each number a meaning, also in a book that is refused; docs/CONTRACTS.md names this function.
 pub fn operator_of(choice: usize) -> Operator
     ensures { result ≡ operator_of choice }
 {
@@ -51,44 +57,37 @@ pub fn operator_of(choice: usize) -> Operator
 }
 
 // The type of the value at record i: byte 5 of a literal, the key's of an attribute, the operator's.
+// Kept: `as` between usize and u64, since there is no `From` between them.
 pub fn type_at(book: &[u8], i: usize) -> usize
     requires { (i + 1) * size ≤ length book.now }
     ensures { ((es : List Expr) → result ≡ type_of (expr_at book.now i es)) × (result < 256) }
 {
-    let choice = record::byte(book, i, 1);
-    if choice == 1 {
-        return record::byte(book, i, 5);
+    match record::byte(book, i, 1) {
+        LITERAL => record::byte(book, i, 5),
+        ATTRIBUTE => (key_at(book, i) / 65536 % 256) as usize,
+        choice => sums::kind(operator_of(choice)),
     }
-    if choice == 2 {
-        let kind = key_at(book, i) / 65536 % 256;
-        return kind as usize;
-    }
-    sums::kind(operator_of(choice))
 }
 
 // Where the second record below record i begins; without two, `stop`.
+// Kept: no `Option`, since it is where the first record ends, be there a second or not.
 pub fn second_in(book: &[u8], i: usize, stop: usize) -> usize
     requires { (i < stop) × (stop * size ≤ length book.now) }
     ensures { (result ≡ second_in book.now i stop) × (i < result) × (result ≤ stop) }
 {
     let first = i + 1;
     if first == stop {
-        return stop;
+        stop
+    } else {
+        first + record::span_in(book, first, stop - first)
     }
-    first + record::span_in(book, first, stop - first)
 }
 
 // The operator of two operands; lost as the first operand that is.
 fn operated(op: Operator, a: Word, b: Word) -> Word
     ensures { result ≡ operated_of op a b }
 {
-    match a {
-        Word::Holds(x) => match b {
-            Word::Holds(y) => sums::work(op, x, y),
-            Word::Nothing(_) => b,
-        },
-        Word::Nothing(_) => a,
-    }
+    sums::work(op, a?, b?)
 }
 
 // The worth of the value at record i: 1 a literal, 2 an attribute, else an operator, which without two operands is read as a literal. It calls itself on
@@ -98,16 +97,16 @@ fn worth_at(book: &[u8], request: &[u8], i: usize, stop: usize) -> Word
     ensures { result ≡ in_bytes (worth (bags_of request.now) (expr_at book.now i (exprs_in book.now (forest book.now (i + 1) (stop - i - 1))))) }
 {
     let choice = record::byte(book, i, 1);
-    if choice == 2 {
+    if choice == ATTRIBUTE {
         return request::only(request, key_at(book, i));
     }
     let literal = record::big8(book, i * record::SIZE + 8);
-    if choice == 1 {
-        return Word::Holds(literal);
+    if choice == LITERAL {
+        return Ok(literal);
     }
     let second = second_in(book, i, stop);
     if second == stop {
-        return Word::Holds(literal);
+        return Ok(literal);
     }
     let last = second + record::span_in(book, second, stop - second);
     let a = worth_at(book, request, i + 1, second);
@@ -119,16 +118,13 @@ fn worth_at(book: &[u8], request: &[u8], i: usize, stop: usize) -> Word
 fn weighed(f: Function, kind: usize, a: Word, b: Word) -> Truth
     ensures { result ≡ weighed_of f kind a b }
 {
-    match a {
-        Word::Holds(x) => match b {
-            Word::Holds(y) => meaning::truth_of(value::holds(
-                f,
-                value::value_of(kind, x),
-                value::value_of(kind, y),
-            )),
-            Word::Nothing(why) => Truth::Unknown(why),
-        },
-        Word::Nothing(why) => Truth::Unknown(why),
+    match (a, b) {
+        (Ok(x), Ok(y)) => meaning::truth_of(value::holds(
+            f,
+            value::value_of(kind, x),
+            value::value_of(kind, y),
+        )),
+        (Err(why), _) | (Ok(_), Err(why)) => Truth::Unknown(why),
     }
 }
 
@@ -137,7 +133,7 @@ pub fn compared(book: &[u8], request: &[u8], i: usize, second: usize, stop: usiz
     requires { (i < stop) × (stop * size ≤ length book.now) × (second ≡ second_in book.now i stop) × (second < stop) × (20 < choice_at book.now i) }
     ensures { result ≡ condition_of (bags_of request.now) (weighs_at book.now i (exprs_in book.now (forest book.now (i + 1) (stop - i - 1)))) }
 {
-    let f = value::function_of(record::byte(book, i, 1) - 20);
+    let f = value::function_of(record::byte(book, i, 1) - WEIGHS);
     let first = i + 1;
     let last = second + record::span_in(book, second, stop - second);
     let a = worth_at(book, request, first, second);

@@ -1,15 +1,16 @@
 use Rattle.meaning.specs.Reading.{bags_of}
-use Rattle.record.specs.Forest.{forest, height}
+use Rattle.record.specs.Forest.{height}
+use Rattle.record.specs.Siblings.{forest_left}
 use Rattle.decider.proofs.Laws.{Sofar}
 use Prim.Native.Nat.{◌+◌, ◌*◌, ◌≤◌}
 use mathlib.Core.Path.{◌≡◌}
 use Rattle.decider.proofs.+body_child_gather_walk.Given as goal
 
-abbrev pub invariant-walk-loop-left : goal.invariant-walk-loop-left
-invariant-walk-loop-left l = (l.i + l.left ≡ l.from + l.count) × (l.left ≤ l.count) × Sofar l.book (bags_of l.request) l.a l.initial.out l.n l.from l.count l.i l.left l.k l.out l.m × (height (forest l.book l.i l.left) ≤ l.depth)
-
-abbrev pub decreases-walk-loop-left : goal.decreases-walk-loop-left
-decreases-walk-loop-left l = l.left
+abbrev pub invariant-walk-loop-i : goal.invariant-walk-loop-i
+invariant-walk-loop-i l =
+    (l.i-iterator.book.now ≡ l.book) × (l.i-iterator.left ≤ l.count)
+    × Sofar l.book (bags_of l.request) l.a l.initial.out l.n l.from l.count (forest_left l.i-iterator) l.k l.out l.m
+    × (height (forest_left l.i-iterator) ≤ l.depth)
 
 abbrev pub decreases-body : goal.decreases-body
 decreases-body l = 4 * l.s + 1

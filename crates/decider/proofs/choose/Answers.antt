@@ -1,38 +1,25 @@
+use Rattle.std.specs.Prelude.{Err}
+use mathlib.Core.Path.{◌≡◌}
 use native.Mathlib.Omega.{arith}
-use mathlib.Core.Path.{sym, ◌∙◌}
-use borrow.Author.Tests.{not-true, not-false}
+use Rattle.std.proofs.lemmas.Grind.{common_steps}
 use Rattle.decider.proofs.Laws.{seek_start, seek_skip, seek_turn, seek_stop, seek_end}
 use Rattle.decider.proofs.choose.Goals as goal
 
-pub loop-left-init : goal.loop-left-init
-loop-left-init c = seek_start _ _ _ _
+pub loop-i-init : goal.loop-i-init
+loop-i-init c =
+    let new = c.new-i-items.ensures in
+    rw c.into_iter-i-iterator.ensures.into_iter_gives (seek_start _ _ _ _ new.book new.at new.left)
 
-pub span_in-s-requires : goal.span_in-s-requires
-span_in-s-requires c = let w = c.loop-left.invariant in (c.loop-left-test.true, omega (arith, w.place, w.fits))
+pub loop-i-preserved-then-not-is_party : goal.loop-i-preserved-then-not-is_party
+loop-i-preserved-then-not-is_party c = seek_skip c.loop-i.invariant c.in-Some.ensures.steps c.if-not-is_party.ensures
 
-pub is_party-requires : goal.is_party-requires
-is_party-requires c = let w = c.loop-left.invariant in omega (arith, w.place, w.fits)
+pub returns-in_err-p : goal.returns-in_err-p
+returns-in_err-p c =
+    let e : c.from_residual.result ≡ Err c.in_err-p.field-0.0 = grind (arith, common_steps) in
+    rw e (seek_stop c.loop-i.invariant c.in-Some.ensures.steps c.if-not-is_party.ensures c.target.ensures c.note.ensures c.in_err-p.was)
 
-pub overflow_add-i : goal.overflow_add-i
-overflow_add-i c = let w = c.loop-left.invariant in omega (arith, w.place, w.fits)
-
-pub loop-left-preserved-then-not-is_party : goal.loop-left-preserved-then-not-is_party
-loop-left-preserved-then-not-is_party c = seek_skip c.loop-left.invariant c.loop-left-test.true c.span_in-s.ensures.0 c.span_in-s.ensures.1.0 c.span_in-s.ensures.1.1 c.is_party.ensures (not-true _ c.if-not-is_party.true-raw)
-
-pub overflow_add-i-in-loop-left : goal.overflow_add-i-in-loop-left
-overflow_add-i-in-loop-left c = let w = c.loop-left.invariant in omega (arith, w.place, w.fits)
-
-pub target-t-requires : goal.target-t-requires
-target-t-requires c = let w = c.loop-left.invariant in omega (arith, w.place, w.fits)
-
-pub returns-then-is_many : goal.returns-then-is_many
-returns-then-is_many c = seek_stop c.loop-left.invariant c.loop-left-test.true c.span_in-s.ensures.0 c.span_in-s.ensures.1.0 c.span_in-s.ensures.1.1 c.is_party.ensures (not-false _ c.if-not-is_party.false-raw) c.target-t.ensures c.note-p.ensures (sym c.is_many.ensures ∙ c.if-is_many.true)
-
-pub overflow_add-i-in-loop-left-2 : goal.overflow_add-i-in-loop-left-2
-overflow_add-i-in-loop-left-2 c = let w = c.loop-left.invariant in omega (arith, w.place, w.fits)
-
-pub loop-left-preserved : goal.loop-left-preserved
-loop-left-preserved c = seek_turn c.loop-left.invariant c.loop-left-test.true c.span_in-s.ensures.0 c.span_in-s.ensures.1.0 c.span_in-s.ensures.1.1 c.is_party.ensures (not-false _ c.if-not-is_party.false-raw) c.target-t.ensures c.note-p.ensures
+pub loop-i-preserved : goal.loop-i-preserved
+loop-i-preserved c = seek_turn c.loop-i.invariant c.in-Some.ensures.steps c.if-not-is_party.ensures c.target.ensures c.note.ensures _ c.in_ok-p.was
 
 pub returns : goal.returns
-returns c = seek_end c.loop-left.invariant c.loop-left-test.false
+returns c = seek_end c.loop-i.invariant c.in-None.ensures.steps

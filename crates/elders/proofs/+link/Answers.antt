@@ -1,6 +1,5 @@
 use native.Mathlib.Omega.{arith}
-use borrow.Author.Rules.{rules}
-use Rattle.elders.proofs.Links.{linking_none, linking_begin, next_le, linking_one, linking_more, linking_end, first_le}
+use Rattle.elders.proofs.Links.{linking_none, linking_begin, next_le, next_lt, linking_more, linking_end, first_le}
 use lib.ListN.{length-set}
 use Rattle.elders.proofs.+link.Goals as goal
 
@@ -12,15 +11,11 @@ loop-i-init t c = linking_begin _ _ _ _ (omega (arith, c.if-from-stop.false, c.r
 
 pub link-requires : goal.link-requires
 link-requires t c =
-    let f = first_le c.loop-i.invariant.row in let n = next_le c.loop-i.invariant c.loop-i-test.true c.span_in-s.ensures.0 in (omega (arith, f, n), (omega (arith, c.if-s-gt1.true), omega (arith, n, c.requires.1), omega (arith, n, c.requires.2), omega (arith, n, c.requires.3, c.loop-i.invariant.kept.long, length-set c.loop-i.elders c.loop-i.i c.narrow.result)))
-
-pub loop-i-preserved-then-s-gt1 : goal.loop-i-preserved-then-s-gt1
-loop-i-preserved-then-s-gt1 t c =
-    linking_more c.loop-i.invariant c.loop-i-test.true c.span_in-s.ensures.0 c.narrow.ensures (omega (arith, c.loop-i.invariant.kept.long, c.loop-i-test.true, c.requires.3)) c.link.ensures.0 c.link.ensures.1
+    let f = first_le c.loop-i.invariant.row in let n = next_le c.loop-i.invariant c.loop-i-test.true c.span_in-s.ensures.0 in (omega (arith, f, n), (omega (arith, next_lt c.loop-i.invariant c.loop-i-test.true c.span_in-s.ensures.0), omega (arith, n, c.requires.1), omega (arith, n, c.requires.2), omega (arith, n, c.requires.3, c.loop-i.invariant.kept.long, length-set c.loop-i.elders c.loop-i.i c.narrow.result)))
 
 pub loop-i-preserved : goal.loop-i-preserved
 loop-i-preserved t c =
-    linking_one c.loop-i.invariant c.loop-i-test.true c.span_in-s.ensures.0 c.narrow.ensures (omega (arith, c.loop-i.invariant.kept.long, c.loop-i-test.true, c.requires.3)) (search rules)
+    linking_more c.loop-i.invariant c.loop-i-test.true c.span_in-s.ensures.0 c.narrow.ensures (omega (arith, c.loop-i.invariant.kept.long, c.loop-i-test.true, c.requires.3)) c.link.ensures.0 c.link.ensures.1
 
 pub returns : goal.returns
 returns t c =

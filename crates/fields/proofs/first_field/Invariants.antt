@@ -6,7 +6,4 @@ use Rattle.fields.proofs.first_field.Given as goal
 
 abbrev pub invariant-loop-records : goal.invariant-loop-records
 invariant-loop-records l =
-    (l.records ≤ l.n) × (l.obligations ≤ l.records) × (first_from (field_ok l.book) 0 l.n ≡ first_from (field_ok l.book) l.records (l.n - l.records)) × (l.obligations ≡ obligations_of l.book l.records)
-
-abbrev pub decreases-loop-records : goal.decreases-loop-records
-decreases-loop-records l = l.n - l.records
+    (l.obligations ≤ l.records) × (first_from (field_ok l.book) 0 l.n ≡ first_from (field_ok l.book) l.records (l.n - l.records)) × (l.obligations ≡ obligations_of l.book l.records)

@@ -1,54 +1,26 @@
-use borrow.Author.Tests.{not-false}
-use mathlib.Core.Path.{refl, sym, ◌∙◌}
+use Rattle.std.proofs.lemmas.Option.{IfSome_then}
 use Rattle.grammar.proofs.Fits.{fits}
-use Rattle.grammar.proofs.Values.{leaf_value, operands_are, is_operator_lem}
+use Rattle.grammar.proofs.Values.{literal_value, attribute_value, operands_are, is_operator_lem}
+use mathlib.Core.Path.{sym, ◌∙◌}
 use native.Mathlib.Omega.{arith}
 use Rattle.grammar.proofs.+operands_value.Goals as goal
-
-pub operands-returns-then-end-next : goal.operands-returns-then-end-next
-operands-returns-then-end-next t c z = absurd (omega arith)
-
-pub operands-returns-then-next-i : goal.operands-returns-then-next-i
-operands-returns-then-next-i t c z = absurd (omega arith)
-
-pub operands-value-second-requires : goal.operands-value-second-requires
-operands-value-second-requires t c = (omega arith, (omega arith, omega arith, omega arith))
-
-pub operands-returns-then-second-eq0 : goal.operands-returns-then-second-eq0
-operands-returns-then-second-eq0 t c z = absurd (omega arith)
-
-pub operands-returns-then-second-next : goal.operands-returns-then-second-next
-operands-returns-then-second-next t c z = absurd (omega arith)
-
-pub operands-value-requires : goal.operands-value-requires
-operands-value-requires t c =
-    let v = c.value-second.ensures (omega arith) in
-    (omega (arith, v.after, v.upto), (omega (arith, v.upto), omega arith, omega arith))
-
-pub operands-returns-then-value-next : goal.operands-returns-then-value-next
-operands-returns-then-value-next t c z = absurd (omega arith)
+use Rattle.grammar.proofs.+operands_value.Goals.{value-then-is_fit-via-then-is_fit, value-then-is_fit-via-else-is_fit+then-is_fit-2}
 
 pub operands-returns : goal.operands-returns
-operands-returns t c z =
-    operands_are _ (omega (arith, c.span.ensures.0)) (omega arith) (c.value-second.ensures (omega arith)) c.if-second-next.false (c.value.ensures (omega arith)) (omega arith)
+operands-returns t c =
+    let ends = c.span.ensures.0 in
+    operands_are _ (omega (arith, ends)) (omega arith) c.in_ok-second.ensures c.if-second-next.false c.in_ok-value.ensures (omega arith)
 
-pub value-returns-then-depth-ge-MOST_DEPTH : goal.value-returns-then-depth-ge-MOST_DEPTH
-value-returns-then-depth-ge-MOST_DEPTH t c z = absurd (omega arith)
-
-pub value-returns-then-value_type-kind : goal.value-returns-then-value_type-kind
-value-returns-then-value_type-kind t c z = absurd (omega arith)
-
-pub value-returns-then-is_literal : goal.value-returns-then-is_literal
-value-returns-then-is_literal t c z =
-    leaf_value _ (fits c.is_literal.ensures c.if-is_literal.true) (omega arith) (sym c.value_type.ensures ∙ c.if-value_type-kind.false) (λ p. refl) (λ p. refl) refl (λ g. refl) refl refl (omega arith)
-
-pub value-returns-then-is_attribute : goal.value-returns-then-is_attribute
-value-returns-then-is_attribute t c z =
-    leaf_value _ (fits c.is_attribute.ensures c.if-is_attribute.true) (omega arith) (sym c.value_type.ensures ∙ c.if-value_type-kind.false) (λ p. refl) (λ p. refl) refl (λ g. refl) refl refl (omega arith)
-
-pub value-returns-then-not-is_operator : goal.value-returns-then-not-is_operator
-value-returns-then-not-is_operator t c z = absurd (omega arith)
+pub value-returns-then-is_fit : goal.value-returns-then-is_fit
+value-returns-then-is_fit t c =
+    let type = sym c.value_type.ensures ∙ c.if-value_type-sort.false in
+    elim c.then-is_fit.branch [
+      | value-then-is_fit-via-then-is_fit w ↦ literal_value _ (fits (sym w.if-is_fit.true ∙ c.is_fit.ensures)) (omega arith) (omega arith) type
+      | value-then-is_fit-via-else-is_fit+then-is_fit-2 w ↦
+          attribute_value _ (fits (sym w.if-is_fit-2.true ∙ w.is_fit-else-is_fit.ensures)) (omega arith) (omega arith) type
+    ]
 
 pub value-returns : goal.value-returns
-value-returns t c z =
-    is_operator_lem _ (omega arith) (c.operands.ensures z) (fits c.is_operator.ensures (not-false _ c.if-not-is_operator.false-raw)) (sym c.value_type.ensures ∙ c.if-value_type-kind.false)
+value-returns t c =
+    IfSome_then _ c.operands.ensures
+    (λ to x. is_operator_lem _ (omega arith) x (fits c.if-not-is_fit.ensures) (sym c.value_type.ensures ∙ c.if-value_type-sort.false))

@@ -1,6 +1,6 @@
 use mathlib.Core.Path.{◌≡◌}
 use mathlib.Core.List.{[], ◌∷◌, ◌++◌}
-use Prim.Native.Nat.{◌≤◌, ◌-◌, ◌*◌, ◌+◌}
+use Prim.Native.Nat.{◌*◌, ◌+◌}
 use lib.ListN.{length, drop}
 use Rattle.record.specs.Stored.{stored}
 use Rattle.line.specs.Line.{fours}
@@ -8,9 +8,5 @@ use Rattle.line.proofs.put_obligations.Given as goal
 
 abbrev pub invariant-loop-i : goal.invariant-loop-i
 invariant-loop-i l =
-    (l.i ≤ length l.obligations)
-    × (length l.out ≡ length l.initial.out)
+    (length l.out ≡ length l.initial.out)
     × (stored l.out (6 + 4 * l.i) (fours (drop l.i l.obligations) ++ (10 ∷ [])) ≡ stored l.initial.out 6 (fours l.obligations ++ (10 ∷ [])))
-
-abbrev pub decreases-loop-i : goal.decreases-loop-i
-decreases-loop-i l = length l.obligations - l.i

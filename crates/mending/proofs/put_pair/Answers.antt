@@ -1,10 +1,15 @@
-use lib.ListN.{length-set}
+use Prim.Native.Nat.{◌/◌, ◌%◌}
+use mathlib.Core.List.{◌∷◌, []}
+use mathlib.Core.Path.{◌≡◌}
+use lib.Seq.{sets-eq}
 use native.Mathlib.Omega.{arith}
-use Rattle.record.proofs.Stored.{stored_pair}
+use Rattle.std.proofs.lemmas.Grind.{common_steps}
+use Rattle.record.specs.Stored.{stored}
 use Rattle.mending.proofs.put_pair.Goals as goal
 
-pub bounds-out-at-2 : goal.bounds-out-at-2
-bounds-out-at-2 c = simp length-set (omega arith)
-
 pub returns : goal.returns
-returns c = stored_pair _ _ _ _
+unfolding stored
+returns c =
+    let e : c.args.n / 256 % 256 ≡ c.args.n / 256 = omega (arith, c.requires.1) in
+    let pair = rw e at c.to_be_bytes.ensures in
+    rw (sets-eq (c.args.n / 256 ∷ c.args.n % 256 ∷ []) c.args.out.now c.args.at (omega arith)) (grind (arith, common_steps, pair))

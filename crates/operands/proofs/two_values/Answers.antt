@@ -1,31 +1,25 @@
-use Prim.Native.Nat.{◌<◌}
+use mathlib.Core.Path.{◌≡◌}
 use native.Mathlib.Omega.{arith}
-use Rattle.operands.specs.Parent.{end_of}
-use Rattle.operands.proofs.Lookahead.{reach_none, reach_more, child_none, child_more, operand_none, operand_more, not_two, two_of_lem}
+use lib.Dec.{leb, eqb}
+use Rattle.record.specs.Choose.{if, both}
+use Rattle.record.specs.Bytes.{span_of}
+use Rattle.operands.specs.Operands.{value_type}
+use Rattle.operands.proofs.Lookahead.{seen_none, seen_more}
 use Rattle.operands.proofs.two_values.Goals as goal
+use Rattle.operands.proofs.two_values.Goals.{then-child, else-child}
 
 pub loop-j-init : goal.loop-j-init
-loop-j-init c =
-    let a = c.args in
-    (omega arith, omega arith, omega arith, omega arith, child_none a.book.now a.i, operand_none a.book.now a.i a.t, reach_none a.book.now a.i)
+loop-j-init c = seen_none _ _ _
 
 pub loop-j-preserved : goal.loop-j-preserved
 loop-j-preserved c =
-    let a = c.args in
-    let inside : c.loop-j.j < end_of a.book.now a.i = omega (arith, c.loop-j-test.true, c.requires.2) in (
-      omega arith,
-      omega arith,
-      omega (arith, c.one-children.ensures.1),
-      omega (arith, c.one-operands.ensures.1),
-      child_more _ c.loop-j.invariant.0 inside c.loop-j.invariant.6 c.loop-j.invariant.4 c.one-children.ensures.0,
-      operand_more _ c.loop-j.invariant.0 inside c.loop-j.invariant.6 _ c.loop-j.invariant.5 c.value_type.ensures c.both_hold-operand.ensures c.one-operands.ensures.0,
-      reach_more _ c.loop-j.invariant.0 c.loop-j.invariant.6 c.span.ensures.0 c.farther-reach.ensures,
-    )
-
-pub returns-then-children-ne2 : goal.returns-then-children-ne2
-returns-then-children-ne2 c =
-    not_two _ _ _ c.requires.2 c.loop-j.invariant.1 c.loop-j-test.false c.loop-j.invariant.4 c.if-children-ne2.true
-
-pub returns : goal.returns
-returns c =
-    two_of_lem _ _ _ c.requires.2 c.loop-j.invariant.1 c.loop-j-test.false c.loop-j.invariant.4 c.if-children-ne2.false c.loop-j.invariant.5
+    let b = c.args.book.now in
+    let l = c.loop-j in
+    let operand : c.if-child.from ≡ both (leb l.reach l.j) (eqb (value_type b l.j) c.args.t) = elim c.if-child.branch [
+      | then-child w ↦ grind (arith, w.if-child.true, w.value_type.ensures, w.from-is)
+      | else-child w ↦ grind (arith, w.if-child.false, w.from-is)
+    ] in
+    let span : c.span.result ≡ span_of b l.j = grind (arith, c.span.ensures) in
+    let child : c.from.result ≡ if (leb l.reach l.j) 1 0 = grind (arith, c.from.ensures) in
+    let counted : c.from-in-loop-j.result ≡ if c.if-child.from 1 0 = grind (arith, c.from-in-loop-j.ensures) in
+    seen_more _ _ c.args.t (omega arith) (omega (arith, c.requires.2)) l.invariant child operand counted span c.max-reach.ensures

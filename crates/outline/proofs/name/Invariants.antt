@@ -1,10 +1,6 @@
 use Rattle.outline.specs.Outline.{Says, name_of}
-use lib.ListN.{length, take}
-use Prim.Native.Nat.{◌≤◌, ◌-◌}
+use lib.ListN.{take}
 use Rattle.outline.proofs.name.Given as goal
 
-abbrev pub invariant-loop-i : goal.invariant-loop-i
-invariant-loop-i l = (l.i ≤ length l.w) × Says l.initial.out l.initial.n (name_of (take l.i l.w)) l.out l.n
-
-abbrev pub decreases-loop-i : goal.decreases-loop-i
-decreases-loop-i l = length l.w - l.i
+abbrev pub invariant-loop-x : goal.invariant-loop-x
+invariant-loop-x l = Says l.initial.out l.at (name_of (take l.x-index l.w)) l.out l.n

@@ -1,18 +1,6 @@
-use Rattle.outline.proofs.Laws.{kept, then, as_is, says_none, take_more}
-use lib.Seq.{take_all}
-use mathlib.Core.Path.{◌∙◌}
+use Rattle.outline.proofs.Laws.{says_part}
 use borrow.Author.Rules.{rules}
 use Rattle.outline.proofs.words.Goals as goal
 
-pub loop-i-init : goal.loop-i-init
-loop-i-init c = (search rules, says_none _ _ (search rules))
-
-pub loop-i-preserved : goal.loop-i-preserved
-loop-i-preserved c =
-    (search rules, as_is (take_more c.args.w.now c.loop-i.i (search rules)) (then c.loop-i.invariant.1 c.put-n.ensures))
-
-pub shape_of-out : goal.shape_of-out
-shape_of-out c = kept c.loop-i.invariant.1 ∙ c.none-n.auto.out
-
 pub returns : goal.returns
-returns c = as_is (take_all c.loop-i.i c.args.w.now (search rules)) (then c.none-n.ensures c.loop-i.invariant.1)
+returns c = says_part _ _ _ _ c.min-from.ensures c.min-n.ensures (search rules)

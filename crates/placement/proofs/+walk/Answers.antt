@@ -1,52 +1,64 @@
-use Prim.Native.Nat.{◌-◌}
+use Prim.Native.Nat.{◌+◌, ◌-◌}
 use mathlib.Core.Path.{◌≡◌, refl, ◌∙◌}
+use Rattle.record.proofs.Forests.{span_stated}
+use Rattle.record.proofs.Steps.{left_none, step}
 use Rattle.fields.proofs.First.{first_none}
 use Rattle.placement.specs.Place.{place_ok}
-use Rattle.placement.proofs.Laws.{ends_after, stop_here, passed, bounds, kids, stop_in, rest, go_on, found, found_none, found_leaf}
+use Rattle.placement.proofs.Laws.{ends_after, stop_here, passed, bounds, kids, stop_in, rest, go_on, found, found_none}
 use native.Mathlib.Omega.{arith}
 use Rattle.placement.proofs.+walk.Goals as goal
 
-pub loop-i-init : goal.loop-i-init
-loop-i-init t c = (omega arith, omega arith, omega arith, c.requires.3, refl)
-
 pub allowed-ok-requires : goal.allowed-ok-requires
 allowed-ok-requires t c =
-    let x = ends_after _ c.loop-i.invariant.3 c.loop-i-test.true c.kind_at-k.ensures c.byte-c.ensures.0 c.span.ensures.0 in
+    let z = step c.loop-i.invariant.5 c.in-Some.ensures.steps in
+    let w = rw z.place at c.loop-i.invariant.3 in
+    let x = ends_after _ w z.inside c.kind_at-k.ensures c.byte-c.ensures.0 c.span.ensures.0 in
     (omega arith, x.0, x.1)
 
-pub returns-then-rule-ne0 : goal.returns-then-rule-ne0
-returns-then-rule-ne0 t c =
-    found _ (stop_here _ c.loop-i.invariant.3 c.loop-i-test.true c.kind_at-k.ensures c.byte-c.ensures.0 c.span.ensures.0 c.stands.ensures c.allowed-ok.ensures c.child_rule-rule.ensures c.if-rule-ne0.true) c.loop-i.invariant.4 (omega arith)
+pub returns-in-Some-child_rule : goal.returns-in-Some-child_rule
+returns-in-Some-child_rule t c =
+    let z = step c.loop-i.invariant.5 c.in-Some.ensures.steps in
+    let w = rw z.place at c.loop-i.invariant.3 in
+    let first = rw z.place at c.loop-i.invariant.4 in
+    let r = c.in-Some-child_rule.ensures in (
+      found _ (stop_here _ w z.inside c.kind_at-k.ensures c.byte-c.ensures.0 c.span.ensures.0 c.stands.ensures c.allowed-ok.ensures r.0 r.1) first (omega (arith, w.after, z.inside)),
+      omega (arith, w.after, z.inside),
+    )
 
-pub loop-i-smaller-then-next-at : goal.loop-i-smaller-then-next-at
-loop-i-smaller-then-next-at t c = let y = bounds _ (passed _ c.loop-i.invariant.3 c.loop-i-test.true c.kind_at-k.ensures c.byte-c.ensures.0 c.span.ensures.0 c.stands.ensures c.allowed-ok.ensures c.child_rule-rule.ensures c.if-rule-ne0.false) in omega arith
-
-pub loop-i-preserved-then-next-at : goal.loop-i-preserved-then-next-at
-loop-i-preserved-then-next-at t c =
-    let h = passed _ c.loop-i.invariant.3 c.loop-i-test.true c.kind_at-k.ensures c.byte-c.ensures.0 c.span.ensures.0 c.stands.ensures c.allowed-ok.ensures c.child_rule-rule.ensures c.if-rule-ne0.false in
+pub walk-requires : goal.walk-requires
+walk-requires t c =
+    let z = step c.loop-i.invariant.5 c.in-Some.ensures.steps in
+    let w = rw z.place at c.loop-i.invariant.3 in
+    let h = passed _ w z.inside c.kind_at-k.ensures c.byte-c.ensures.0 c.span.ensures.0 c.stands.ensures c.allowed-ok.ensures refl c.in_default.ensures in
     let y = bounds _ h in
-    let f = found_leaf c.args.book.now c.loop-i.i c.if-next-at.true in
-    (omega arith, omega arith, omega arith, rest _ h f (omega arith) c.rank-before.ensures.0, go_on _ h f (omega arith) c.loop-i.invariant.4)
+    rw c.below.ensures (omega (arith, y, w.after, z.inside), (omega (arith, y), omega (arith, y), omega (arith, y), kids _ h refl))
 
-pub walk-bad-requires : goal.walk-bad-requires
-walk-bad-requires t c =
-    let h = passed _ c.loop-i.invariant.3 c.loop-i-test.true c.kind_at-k.ensures c.byte-c.ensures.0 c.span.ensures.0 c.stands.ensures c.allowed-ok.ensures c.child_rule-rule.ensures c.if-rule-ne0.false in
+pub returns-in-Some-walk : goal.returns-in-Some-walk
+returns-in-Some-walk t c =
+    let z = step c.loop-i.invariant.5 c.in-Some.ensures.steps in
+    let w = rw z.place at c.loop-i.invariant.3 in
+    let first = rw z.place at c.loop-i.invariant.4 in
+    let h = passed _ w z.inside c.kind_at-k.ensures c.byte-c.ensures.0 c.span.ensures.0 c.stands.ensures c.allowed-ok.ensures refl c.in_default.ensures in
     let y = bounds _ h in
-    (omega arith, (omega arith, omega arith, omega arith, kids _ h c.number.ensures))
-
-pub returns-then-bad-next : goal.returns-then-bad-next
-returns-then-bad-next t c =
-    found _ (stop_in _ (passed _ c.loop-i.invariant.3 c.loop-i-test.true c.kind_at-k.ensures c.byte-c.ensures.0 c.span.ensures.0 c.stands.ensures c.allowed-ok.ensures c.child_rule-rule.ensures c.if-rule-ne0.false) c.walk-bad.ensures c.if-bad-next.true) c.loop-i.invariant.4 (omega arith)
-
-pub loop-i-smaller : goal.loop-i-smaller
-loop-i-smaller t c = let y = bounds _ (passed _ c.loop-i.invariant.3 c.loop-i-test.true c.kind_at-k.ensures c.byte-c.ensures.0 c.span.ensures.0 c.stands.ensures c.allowed-ok.ensures c.child_rule-rule.ensures c.if-rule-ne0.false) in omega arith
+    let f = c.in-Some-walk.ensures in
+    (found _ (stop_in _ h f.0 (omega (arith, f.1, y))) first (omega (arith, w.after, z.inside)), omega (arith, f.1, y, w.after))
 
 pub loop-i-preserved : goal.loop-i-preserved
 loop-i-preserved t c =
-    let h = passed _ c.loop-i.invariant.3 c.loop-i-test.true c.kind_at-k.ensures c.byte-c.ensures.0 c.span.ensures.0 c.stands.ensures c.allowed-ok.ensures c.child_rule-rule.ensures c.if-rule-ne0.false in
+    let z = step c.loop-i.invariant.5 c.in-Some.ensures.steps in
+    let w = rw z.place at c.loop-i.invariant.3 in
+    let first = rw z.place at c.loop-i.invariant.4 in
+    let h = passed _ w z.inside c.kind_at-k.ensures c.byte-c.ensures.0 c.span.ensures.0 c.stands.ensures c.allowed-ok.ensures refl c.in_default.ensures in
     let y = bounds _ h in
-    let f = c.walk-bad.ensures in
-    (omega arith, omega arith, omega arith, rest _ h f c.if-bad-next.false c.rank-before.ensures.0, go_on _ h f c.if-bad-next.false c.loop-i.invariant.4)
+    let f = c.in_default-walk.ensures in
+    let e = c.span.ensures.0 in
+    let s = span_stated c.args.book.now c.in-Some.i (c.args.top - c.in-Some.i) (w.spans c.in-Some.i z.inside) (omega (arith, e, y)) in
+    let next : c.next.new.self.at ≡ c.in-Some.i + c.span.result = omega (arith, z.next, z.span, s, e) in
+    (rw next y.1, omega (arith, next, w.after), c.rank-before.ensures.1, rw next (rest _ h f (omega (arith, y)) c.rank-before.ensures.0), rw next (go_on _ h f (omega (arith, y)) first), z.left)
 
 pub returns : goal.returns
-returns t c = let e : c.loop-i.i ≡ c.args.top = omega arith in found_none _ (c.loop-i.invariant.4 ∙ first_none (place_ok c.args.book.now) c.loop-i.i (c.args.top - c.loop-i.i) (omega arith) ∙ e) (omega arith)
+returns t c =
+    let l = left_none c.loop-i.invariant.5 c.in-None.ensures.steps in
+    let at = c.loop-i.i-iterator.at in
+    let e : at ≡ c.args.p + 1 + (c.args.top - (c.args.p + 1)) = omega (arith, l, c.loop-i.invariant.0, c.loop-i.invariant.1) in
+    found_none _ (c.loop-i.invariant.4 ∙ first_none (place_ok c.args.book.now) at (c.args.top - at) (omega (arith, l)) ∙ e) refl

@@ -1,5 +1,10 @@
+use mathlib.Core.Path.{refl}
+use Prim.Native.Nat.{◌+◌}
 use Rattle.record.proofs.Laws.{turned_four}
 use Rattle.record.proofs.word.Goals as goal
 
 pub returns : goal.returns
-returns c = turned_four _ _ c.wide32.ensures.0 c.wide32-2.ensures.0 c.wide32-3.ensures.0 c.wide32-4.ensures.0 c.wide32.ensures.1 c.wide32-2.ensures.1 c.wide32-3.ensures.1 c.wide32-4.ensures.1
+returns c =
+    let at = c.args.at in
+    let byte = c.type_inv.s in
+    rw c.from_le_bytes.ensures (turned_four c.args.s.now at refl refl refl refl (byte at).fits (byte (at + 1)).fits (byte (at + 2)).fits (byte (at + 3)).fits)

@@ -1,16 +1,15 @@
-use borrow.Author.Rules.{rules}
-use mathlib.Core.Path.{refl, ◌∙◌}
-use Rattle.request.proofs.Laws.{next_here, next_further, next_none}
+use Rattle.std.proofs.Common.{rules, tests, arith, ◌≡◌, false, true}
+use Rattle.std.proofs.lemmas.Iterator.{first_from_Range}
+use Rattle.meaning.specs.Numbers.{key_by}
+use Rattle.meaning.specs.Reading.{key_in, takes}
+use Rattle.request.proofs.Laws.{next_found}
 use Rattle.request.proofs.next.Goals as goal
 
-pub loop-k-init : goal.loop-k-init
-loop-k-init c = (refl, refl)
-
-pub returns-then-takes : goal.returns-then-takes
-returns-then-takes c = next_here _ _ c.loop-k-test.true c.takes.ensures c.if-takes.true ∙ c.loop-k.invariant.1
-
-pub loop-k-preserved : goal.loop-k-preserved
-loop-k-preserved c = (search rules, next_further _ _ c.loop-k-test.true c.takes.ensures c.if-takes.false ∙ c.loop-k.invariant.1)
-
 pub returns : goal.returns
-returns c = next_none _ _ _ c.loop-k-test.false ∙ c.loop-k.invariant.1
+returns c =
+    let q = c.args.request.now in
+    let key = key_by c.args.key in
+    next_found q key c.args.from c.find.result
+    (first_from_Range _ _ _ c.find.result (λ i. true ≡ takes key (key_in q i)) (λ i. false ≡ takes key (key_in q i)) c.find.ensures.ran
+    (λ x p k. search (rules, tests))
+    (λ x p k. (search rules, search (rules, tests))))

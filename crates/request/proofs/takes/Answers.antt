@@ -1,11 +1,10 @@
-use native.Mathlib.Omega.{arith}
-use borrow.Author.Tests.{not-true, not-false}
+use mathlib.Core.Path.{◌∙◌}
+use borrow.Author.Rules.{rules}
 use Rattle.request.proofs.Laws.{takes_apart, takes_by}
 use Rattle.request.proofs.takes.Goals as goal
 
-pub returns-then-not-is4 : goal.returns-then-not-is4
-returns-then-not-is4 c = takes_apart _ (λ i. omega (arith, c.shared_slice_known-1.given i)) _ _ c.is4.ensures (not-true _ c.if-not-is4.true-raw)
+pub returns-then-is4 : goal.returns-then-is4
+returns-then-is4 c = takes_by _ (λ i. search rules) _ _ c.is4.ensures c.if-is4.true (c.from.ensures ∙ c.big2.ensures) c.takes_issuer.ensures
 
-pub returns : goal.returns
-returns c =
-    takes_by _ (λ i. omega (arith, c.shared_slice_known-1.given i)) _ _ c.is4.ensures (not-false _ c.if-not-is4.false-raw) c.big2-issuer.ensures c.takes_issuer.ensures
+pub returns-else-is4 : goal.returns-else-is4
+returns-else-is4 c = c.if-is4.false ∙ takes_apart _ (λ i. search rules) _ _ c.is4.ensures c.if-is4.false

@@ -1,33 +1,49 @@
-use mathlib.Core.Path.{◌∙◌}
+use mathlib.Core.Path.{refl, sym, ◌∙◌, ap}
+use Rattle.record.proofs.Walks.{all_left, still, next_left, none_left}
 use Rattle.rules.proofs.Loops.{join_none, join_turn, join_stop, join_end}
 use Rattle.rules.proofs.Laws.{conditions_more, conditions_none, is_joined, is_comparison, not_none, not_more}
 use native.Mathlib.Omega.{arith}
 use Rattle.rules.proofs.+condition.Goals as goal
 
-pub returns-then-choice-gt20 : goal.returns-then-choice-gt20
-returns-then-choice-gt20 t c = c.weighed.ensures
-
-pub returns-then-choice-gt3 : goal.returns-then-choice-gt3
-returns-then-choice-gt3 t c = let l = c.if-choice-gt3.true in is_comparison _ _ _ _ c.byte-choice.ensures.0 (λ w. omega (arith, l, w)) (λ w. omega (arith, l, w)) (λ w. omega (arith, l, w)) c.if-choice-gt20.false c.compared.ensures
+pub returns-then-choice-gt-WEIGHS : goal.returns-then-choice-gt-WEIGHS
+returns-then-choice-gt-WEIGHS t c = c.weighed.ensures
 
 pub returns-then-choice-eq0 : goal.returns-then-choice-eq0
-returns-then-choice-eq0 t c = let z = c.if-choice-eq0.true in is_comparison _ _ _ _ c.byte-choice.ensures.0 (λ w. omega (arith, z, w)) (λ w. omega (arith, z, w)) (λ w. omega (arith, z, w)) (omega (arith, z)) c.compared-then-choice-eq0.ensures
+returns-then-choice-eq0 t c =
+    let p = c.then-choice-eq0.either in
+    is_comparison _ _ _ _ c.byte-choice.ensures.0 (λ w. omega (arith, p, w)) (λ w. omega (arith, p, w)) (λ w. omega (arith, p, w)) c.if-choice-gt-WEIGHS.false c.compared.ensures
 
-pub returns-then-s-eq1 : goal.returns-then-s-eq1
-returns-then-s-eq1 t c = not_none _ _ _ _ c.byte-choice.ensures.0 c.if-choice-eq3.true c.if-s-eq1.true c.compared-then-s-eq1.ensures
+pub returns-in-Some : goal.returns-in-Some
+returns-in-Some t c =
+    let new = c.new-parts.ensures in
+    let begun = all_left {w = c.new-parts.result} refl new.book new.at new.left in
+    not_more _ _ _ _ c.byte-choice.ensures.0 c.if-choice-eq-NOT.true (sym begun.1 ∙ next_left new.book c.in-Some.ensures.steps) c.condition.ensures c.not3.ensures
 
-pub returns-then-choice-eq3 : goal.returns-then-choice-eq3
-returns-then-choice-eq3 t c =
-    not_more _ _ _ _ c.byte-choice.ensures.0 c.if-choice-eq3.true c.requires.0 c.if-s-eq1.false c.span_in-part.ensures.0 c.condition.ensures c.not3.ensures
+pub returns-in-None : goal.returns-in-None
+returns-in-None t c =
+    let new = c.new-parts.ensures in
+    let begun = all_left {w = c.new-parts.result} refl new.book new.at new.left in
+    not_none _ _ _ _ c.byte-choice.ensures.0 c.if-choice-eq-NOT.true (sym begun.1 ∙ none_left c.new-parts.result c.in-None.ensures.steps) c.compared-in-None.ensures
 
-pub loop-left-init : goal.loop-left-init
-loop-left-init t c = (omega arith, omega arith, join_none _ _ c.joined_none-acc.ensures ∙ is_joined _ _ _ _ c.byte-choice.ensures.0 c.if-choice-eq0.false c.if-choice-gt3.false c.if-choice-eq3.false)
+pub loop-at-init : goal.loop-at-init
+loop-at-init t c =
+    let new = c.new-parts.ensures in
+    let begun = all_left c.into_iter-at-iterator.ensures.into_iter_gives new.book new.at new.left in (
+      begun.0,
+      omega (arith, ap (λ w. w.left) c.into_iter-at-iterator.ensures.into_iter_gives, new.left),
+      rw begun.1 (join_none _ _ c.truth_of-acc.ensures ∙ is_joined _ _ _ _ c.byte-choice.ensures.0 c.if-choice-eq0.false c.if-choice-gt-NOT.false c.if-choice-eq-NOT.false),
+    )
 
 pub returns-then-is_sure : goal.returns-then-is_sure
-returns-then-is_sure t c = join_stop _ _ (conditions_more _ _ _ c.loop-left-test.true c.span_in-n.ensures.0 _ c.condition-t.ensures) c.is_sure.ensures c.if-is_sure.true c.loop-left.invariant.2
+returns-then-is_sure t c =
+    let kept = c.loop-at.invariant in
+    join_stop _ _ (conditions_more _ (next_left kept.0 c.in-Some-2.ensures.steps) _ c.condition-t.ensures) c.is_sure.ensures c.if-is_sure.true kept.2
 
-pub loop-left-preserved : goal.loop-left-preserved
-loop-left-preserved t c = (omega arith, omega arith, join_turn _ _ (conditions_more _ _ _ c.loop-left-test.true c.span_in-n.ensures.0 _ c.condition-t.ensures) c.joined-acc.ensures c.loop-left.invariant.2)
+pub loop-at-preserved : goal.loop-at-preserved
+loop-at-preserved t c =
+    let kept = c.loop-at.invariant in
+    let step = c.in-Some-2.ensures.steps in
+    (still kept.0 step, omega (arith, kept.1, step.left), join_turn _ _ (conditions_more _ (next_left kept.0 step) _ c.condition-t.ensures) c.joined-acc.ensures kept.2)
 
 pub returns : goal.returns
-returns t c = join_end _ _ (conditions_none _ _ _ c.loop-left-test.false _) c.loop-left.invariant.2
+returns t c = join_end _ _ (conditions_none (none_left c.loop-at.at-iterator c.in-None-2.ensures.steps) _ _) c.loop-at.invariant.2

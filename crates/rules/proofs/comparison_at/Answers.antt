@@ -3,4 +3,4 @@ use Rattle.rules.proofs.comparison_at.Goals as goal
 
 pub returns : goal.returns
 unfolding comparison_at
-returns c = rw (← c.byte-choice.ensures.0, ← c.compares_by.ensures) c.test_at.ensures
+returns c = rw (← c.byte.ensures.0, ← c.saturating_sub.ensures) c.test_at.ensures

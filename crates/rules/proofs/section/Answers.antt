@@ -1,17 +1,13 @@
-use native.Mathlib.Omega.{arith}
-use Rattle.rules.proofs.Loops.{ors, ors_settle, then, turn, stop, end}
-use Rattle.rules.proofs.Laws.{truths_none, conjunctions_more, section_all}
+use Rattle.std.proofs.Common.{refl, ◌∙◌, rules}
+use Rattle.meaning.specs.Meaning.{conjunction_of}
+use Rattle.meaning.specs.Reading.{conjunction_at, bags_of}
+use Rattle.record.proofs.Walks.{all_left}
+use Rattle.rules.proofs.Laws.{section_all}
 use Rattle.rules.proofs.section.Goals as goal
 
-pub loop-left-init : goal.loop-left-init
-unfolding then
-loop-left-init c = (omega (arith, c.children_at-at.ensures.1), section_all _ _ _ _ c.requires.0 c.children_at-at.ensures.0)
-
-pub returns-in-True : goal.returns-in-True
-returns-in-True c = stop ors _ (conjunctions_more _ _ _ c.loop-left-test.true c.span_in-n.ensures.0 _ c.conjunction-t.ensures) ors_settle c.in-True.is c.loop-left.invariant.1
-
-pub loop-left-preserved : goal.loop-left-preserved
-loop-left-preserved c = (omega arith, turn ors _ (conjunctions_more _ _ _ c.loop-left-test.true c.span_in-n.ensures.0 _ c.conjunction-t.ensures) c.or3-acc.ensures c.loop-left.invariant.1)
-
 pub returns : goal.returns
-returns c = end ors _ (truths_none _ _ _ c.loop-left-test.false _ _) c.loop-left.invariant.1
+returns c =
+    let new = c.new.ensures in
+    let begun = all_left {w = c.new.result} refl new.book new.at new.left in
+    c.join.ensures (λ j below. conjunction_of (bags_of c.args.request.now) (conjunction_at c.args.book.now j below)) (λ j n t long within p. rw new.book (search rules))
+    ∙ rw begun.1 (section_all _ _ _ _ c.requires.0 c.children_at-from.ensures.0)

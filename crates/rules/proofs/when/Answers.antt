@@ -1,16 +1,16 @@
-use native.Mathlib.Omega.{arith}
-use mathlib.Core.Path.{refl}
+use Rattle.record.proofs.Walks.{still, next_left, none_left}
 use Rattle.rules.proofs.Laws.{when_here, when_later, when_none}
 use Rattle.rules.proofs.when.Goals as goal
 
-pub loop-left-init : goal.loop-left-init
-loop-left-init c = (refl, omega arith, refl)
+pub returns-then-byte-eq-CONDITION : goal.returns-then-byte-eq-CONDITION
+returns-then-byte-eq-CONDITION c =
+    let kept = c.loop-i.invariant in
+    when_here _ (next_left kept.0 c.in-Some.ensures.steps) _ c.byte.ensures.0 c.if-byte-eq-CONDITION.true c.condition.ensures kept.1
 
-pub returns-then-kind-eq7 : goal.returns-then-kind-eq7
-returns-then-kind-eq7 c = when_here _ _ _ c.loop-left-test.true c.span_in-s.ensures.0 _ c.byte-kind.ensures.0 c.if-kind-eq7.true c.condition.ensures c.loop-left.invariant.2
-
-pub loop-left-preserved : goal.loop-left-preserved
-loop-left-preserved c = (omega arith, omega arith, when_later _ _ _ c.loop-left-test.true c.span_in-s.ensures.0 _ c.byte-kind.ensures.0 c.if-kind-eq7.false c.loop-left.invariant.2)
+pub loop-i-preserved : goal.loop-i-preserved
+loop-i-preserved c =
+    let kept = c.loop-i.invariant in
+    (still kept.0 c.in-Some.ensures.steps, when_later _ (next_left kept.0 c.in-Some.ensures.steps) _ c.byte.ensures.0 c.if-byte-eq-CONDITION.false kept.1)
 
 pub returns : goal.returns
-returns c = when_none _ _ _ c.loop-left-test.false _ c.loop-left.invariant.2
+returns c = when_none (none_left c.loop-i.i-iterator c.in-None.ensures.steps) _ _ c.loop-i.invariant.1

@@ -1,5 +1,5 @@
 use mathlib.Core.Path.{◌≡◌}
-use Prim.Native.Nat.{◌≤◌, ◌-◌, ◌*◌}
+use Prim.Native.Nat.{◌-◌, ◌*◌}
 use lib.ListN.{length}
 use Rattle.record.specs.Stored.{stored}
 use Rattle.salvage.specs.Salvage.{lines_of}
@@ -8,9 +8,5 @@ use Rattle.salvage.proofs.put_lines.Given as goal
 
 abbrev pub invariant-loop-i : goal.invariant-loop-i
 invariant-loop-i l =
-    (l.i ≤ l.m)
-    × (length l.out ≡ length l.initial.out)
+    (length l.out ≡ length l.initial.out)
     × (stored l.out (l.i * 9) (lines_of (replacements_at l.replaced l.i (l.m - l.i))) ≡ stored l.initial.out 0 (lines_of (replacements_at l.replaced 0 l.m)))
-
-abbrev pub decreases-loop-i : goal.decreases-loop-i
-decreases-loop-i l = l.m - l.i

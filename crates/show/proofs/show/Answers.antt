@@ -4,7 +4,7 @@ use lib.ListN.{length-take}
 use Rattle.show.proofs.show.Goals as goal
 
 pub slice_bounds-show_records-end : goal.slice_bounds-show_records-end
-slice_bounds-show_records-end g c = omega (arith, read_fits _ _ _ _ c.read_book.ensures.0 c.in-Places.is)
+slice_bounds-show_records-end g c = omega (arith, read_fits _ _ _ _ c.read_book.ensures.0 c.in-Ok.is)
 
-pub slice_bounds-show_records-end-in-Places : goal.slice_bounds-show_records-end-in-Places
-slice_bounds-show_records-end-in-Places g c = simp length-take (omega (arith, read_fits _ _ _ _ c.read_book.ensures.0 c.in-Places.is))
+pub slice_bounds-show_records-end-in-Ok : goal.slice_bounds-show_records-end-in-Ok
+slice_bounds-show_records-end-in-Ok g c = simp length-take (omega (arith, read_fits _ _ _ _ c.read_book.ensures.0 c.in-Ok.is))

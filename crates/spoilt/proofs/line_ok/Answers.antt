@@ -1,28 +1,17 @@
 use native.Mathlib.Omega.{arith}
-use borrow.Author.Tests.{not-true, not-false}
-use Rattle.spoilt.proofs.Lines.{field_by, line_field, line_long, line_deep, line_misplaced, line_ends, line_operands}
+use mathlib.Core.Path.{refl, sym}
+use Rattle.spoilt.proofs.Lines.{head_bad, head_ends, line_operands}
 use Rattle.spoilt.proofs.line_ok.Goals as goal
-
-pub returns-then-not-rules : goal.returns-then-not-rules
-returns-then-not-rules c =
-    line_field _ _ _ _ _ _ _ (field_by _ _ c.requires.3 c.rules.ensures) (not-true _ c.if-not-rules.true-raw)
-
-pub returns-then-top-end : goal.returns-then-top-end
-returns-then-top-end c = line_long _ _ _ _ _ _ _ c.requires.1 c.span.ensures.0 (omega arith)
-
-pub returns-then-above-ge-MOST_DEPTH : goal.returns-then-above-ge-MOST_DEPTH
-returns-then-above-ge-MOST_DEPTH c = line_deep _ _ _ _ _ _ _ (omega arith)
-
-pub returns-then-not-stands : goal.returns-then-not-stands
-returns-then-not-stands c =
-    line_misplaced _ _ _ _ _ _ _ c.requires.3 c.byte-c.ensures.0 c.stands.ensures (not-true _ c.if-not-stands.true-raw)
 
 pub operands_in-requires : goal.operands_in-requires
 operands_in-requires c =
-    (omega arith, line_ends _ _ (field_by _ _ c.requires.3 c.rules.ensures) (not-false _ c.if-not-rules.false-raw) c.span.ensures.0)
+    let w = head_ends _ _ _ _ _ _ c.args.up.category _ c.requires.3 refl (sym c.if-head_ok.ensures) in
+    let e = c.span.ensures.0 in
+    (omega arith, omega arith)
 
-pub returns : goal.returns
-returns c =
-    line_operands _ _ _ _ _ _ _ c.requires.3 c.byte-c.ensures.0 c.stands.ensures
-    (field_by _ _ c.requires.3 c.rules.ensures) (not-false _ c.if-not-rules.false-raw) c.span.ensures.0 c.if-top-end.false c.if-above-ge-MOST_DEPTH.false
-    (not-false _ c.if-not-stands.false-raw) c.byte.ensures.0 c.operands_in.ensures
+pub returns-then-head_ok : goal.returns-then-head_ok
+returns-then-head_ok c =
+    line_operands _ _ _ _ _ _ _ _ c.requires.3 refl (sym c.if-head_ok.ensures) c.span.ensures.0 c.byte.ensures.0 c.operands_in.ensures
+
+pub returns-else-head_ok : goal.returns-else-head_ok
+returns-else-head_ok c = rw (c.if-head_ok.false) (head_bad _ _ _ _ _ _ _ _ c.requires.3 refl c.requires.1 (sym c.if-head_ok.ensures))

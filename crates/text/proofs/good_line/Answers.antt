@@ -1,24 +1,20 @@
 use native.Mathlib.Omega.{arith}
-use Prim.Native.Nat.{◌+◌}
-use lib.ListN.{length}
-use borrow.Author.Tests.{lt-leb, le-leb, eq-eqb, ne_eqb}
-use Rattle.text.specs.Text.{good_line, line_length}
+use Rattle.std.proofs.lemmas.Grind.{common_steps}
+use mathlib.Core.Path.{◌≡◌, ◌∙◌}
+use Prim.Native.Nat.{◌<◌, ◌+◌, ◌-◌}
+use lib.ListN.{length, get_or}
+use borrow.Author.Tests.{le-leb, eq-eqb}
+use Rattle.text.specs.Hex.{is_digit}
+use Rattle.text.specs.Text.{good_line, digits, line_length, lf}
+use Rattle.text.proofs.Lists.{all_placed}
 use Rattle.text.proofs.good_line.Goals as goal
 
-pub returns-then-text-at : goal.returns-then-text-at
+pub returns-then-eq : goal.returns-then-eq
 unfolding good_line
-returns-then-text-at c =
+returns-then-eq c =
     let a = c.args in
-    simp (lt-leb (a.at + line_length a.w) (length a.text.now) (omega arith))
-
-pub returns-then-text-at-ne-LF : goal.returns-then-text-at-ne-LF
-unfolding good_line
-returns-then-text-at-ne-LF c =
-    let a = c.args in
-    simp (le-leb (a.at + line_length a.w) (length a.text.now) (omega arith), ne_eqb _ _ c.if-text-at-ne-LF.true)
-
-pub returns : goal.returns
-unfolding good_line
-returns c =
-    let a = c.args in
-    simp (le-leb (a.at + line_length a.w) (length a.text.now) (omega arith), eq-eqb _ _ c.if-text-at-ne-LF.false) c.all_digits.ensures
+    let h : a.at + digits a.w < length a.text.now = grind (arith, common_steps) in
+    let e : get_or a.text.now (a.at + digits a.w) 0 ≡ lf = grind (arith, common_steps) in
+    let n : a.at + digits a.w - a.at ≡ digits a.w = omega arith in
+    simp (le-leb (a.at + line_length a.w) (length a.text.now) (omega arith), eq-eqb _ _ e)
+    (rw n at c.all_digits.ensures ∙ all_placed is_digit a.text.now a.at (digits a.w) (omega arith))

@@ -1,25 +1,24 @@
-use borrow.Author.Rules.{rules}
+use Rattle.std.proofs.lemmas.Grind.{common_steps}
 use native.Mathlib.Omega.{arith}
-use Rattle.text.proofs.Widths.{width_within}
+use borrow.Author.Rules.{rules}
+use mathlib.Core.Path.{refl}
+use Prim.Native.Nat.{◌*◌, ◌+◌, ◌<◌, ◌≤◌}
+use lib.ListN.{length}
+use Rattle.text.specs.Text.{start}
 use Rattle.text.proofs.Zeroed.{zeroing_none, zeroing_more, zeroing_done}
 use Rattle.text.proofs.zero_wrong.Goals as goal
 
-pub overflow_mul-line : goal.overflow_mul-line
-overflow_mul-line c = omega (arith, c.width-w.ensures, (width_within c.args.text.now).1)
+pub loop-n-init : goal.loop-n-init
+loop-n-init c = zeroing_none _
 
-pub overflow_add-line : goal.overflow_add-line
-overflow_add-line c = omega (arith, c.width-w.ensures, (width_within c.args.text.now).1)
-
-pub loop-at-init : goal.loop-at-init
-loop-at-init c = zeroing_none _
-
-pub good_line-good-requires : goal.good_line-good-requires
-good_line-good-requires c =
-    (omega (arith, c.width-w.ensures, (width_within c.args.text.now).1), search rules)
-
-pub loop-at-preserved : goal.loop-at-preserved
-loop-at-preserved c =
-    zeroing_more c.loop-at.invariant c.width-w.ensures c.loop-at-test.true c.good_line-good.ensures (omega (arith, c.least.ensures)) c.zero_line.auto.text c.zero_line.ensures
+pub loop-n-preserved : goal.loop-n-preserved
+unfolding start
+loop-n-preserved c =
+    let h : (2 * c.width-w.result + 1) * c.loop-n.n < length c.loop-n.text = grind (arith, common_steps) in
+    zeroing_more c.loop-n.invariant c.width-w.ensures.0 refl h c.good_line-good.ensures c.min-end.ensures (search rules) (rw c.zero_line.ensures refl)
 
 pub returns : goal.returns
-returns c = zeroing_done c.loop-at.invariant c.loop-at-test.false
+unfolding start
+returns c =
+    let h : length c.loop-n.text ≤ (2 * c.width-w.result + 1) * c.loop-n.n = grind (arith, common_steps) in
+    zeroing_done c.loop-n.invariant (rw (← c.width-w.ensures.0) h)

@@ -9,4 +9,4 @@ show-requires g c = (omega (arith, few_steps _ _ _ _ _ c.tick-ticked.ensures.0),
 
 pub returns : goal.returns
 unfolding after_of
-returns g c = rw (c.is_running.ensures, c.tick-ticked.ensures.0)
+returns g c = rw (c.then_some.ensures, c.is_running.ensures, c.tick-ticked.ensures.0)

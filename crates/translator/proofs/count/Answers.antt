@@ -1,6 +1,8 @@
+use native.Mathlib.Omega.{arith}
 use borrow.Author.Rules.{rules}
 use Rattle.emission.proofs.Emit.{programme_short}
 use Rattle.translator.proofs.count.Goals as goal
 
 pub programme-requires : goal.programme-requires
-programme-requires c = (search rules, search rules, search rules, programme_short _ _ c.requires.2 c.requires.0, search rules, c.requires.3, c.requires.4, c.requires.5, c.requires.6)
+programme-requires c =
+    (c.requires.0, programme_short _ _ c.requires.0.1 (omega (arith, c.args.top.some)), search rules, c.requires.1)

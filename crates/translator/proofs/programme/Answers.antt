@@ -5,16 +5,16 @@ use Rattle.translator.proofs.programme.Goals as goal
 
 pub ends-foot-requires : goal.ends-foot-requires
 ends-foot-requires c =
-    third_fits (programme_to _ _ c.requires.2 c.requires.7 c.requires.8) _ c.requires.3
+    third_fits (programme_to _ _ c.requires.0 c.requires.3.1 c.requires.3.2) _ c.requires.1
 
 pub within-head-requires : goal.within-head-requires
 within-head-requires c =
-    (search rules, search rules, search rules, second_fits (programme_to _ _ c.requires.2 c.requires.7 c.requires.8) c.requires.3 c.ends-foot.ensures, search rules, c.requires.5)
+    (second_fits (programme_to _ _ c.requires.0 c.requires.3.1 c.requires.3.2) c.requires.1 c.ends-foot.ensures, search rules)
 
 pub single-requires : goal.single-requires
 single-requires c =
-    (first_fits (programme_to _ _ c.requires.2 c.requires.7 c.requires.8) c.requires.3 c.ends-foot.ensures c.within-head.ensures, search rules, search rules)
+    (first_fits (programme_to _ _ c.requires.0 c.requires.3.1 c.requires.3.2) c.requires.1 c.ends-foot.ensures c.within-head.ensures, search rules, search rules)
 
 pub returns : goal.returns
 returns c =
-    three (programme_to _ _ c.requires.2 c.requires.7 c.requires.8) c.ends-foot.ensures c.within-head.ensures (begun _ _ (code_of c.algorithm_code-algorithm.ensures.0 c.algorithm_at.ensures) c.single.ensures)
+    three (programme_to _ _ c.requires.0 c.requires.3.1 c.requires.3.2) c.ends-foot.ensures c.within-head.ensures (begun _ _ (code_of c.code-algorithm.ensures.0 c.algorithm_at.ensures) c.single.ensures)

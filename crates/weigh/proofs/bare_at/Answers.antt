@@ -12,7 +12,7 @@ overflow_sub-result c =
     let a = c.args in
     omega (arith, big_four_at a.book.now a.i, c.big4-word.ensures, c.byte.ensures.0)
 
-pub returns : goal.returns
-returns c =
+pub returns-else-byte-lt128 : goal.returns-else-byte-lt128
+returns-else-byte-lt128 c =
     let a = c.args in
     omega (arith, big_four_at a.book.now a.i, c.big4-word.ensures, c.byte.ensures.0)

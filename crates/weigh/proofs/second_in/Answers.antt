@@ -11,6 +11,6 @@ returns-then-first-stop c =
     let z = span_le a.book.now (a.i + 1) (a.stop - (a.i + 1)) in
     (omega (arith, z, c.if-first-stop.true), omega arith, omega arith)
 
-pub returns : goal.returns
+pub returns-else-first-stop : goal.returns-else-first-stop
 unfolding second_in
-returns c = (omega (arith, c.span_in.ensures.0), omega arith, omega (arith, c.span_in.ensures.1))
+returns-else-first-stop c = (omega (arith, c.span_in.ensures.0), omega arith, omega (arith, c.span_in.ensures.1))

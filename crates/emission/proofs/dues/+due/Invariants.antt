@@ -4,10 +4,7 @@ use Rattle.meaning.specs.Reading.{effect_of}
 use Rattle.emission.proofs.dues.+due.Given as goal
 
 abbrev pub invariant-loop-at : goal.invariant-loop-at
-invariant-loop-at l = Counting l.book l.i l.stop (effect_of l.e) l.set l.at l.n
-
-abbrev pub decreases-loop-at : goal.decreases-loop-at
-decreases-loop-at l = l.stop - l.at
+invariant-loop-at l = Counting l.book l.i l.stop (effect_of l.e) l.set l.at-iterator l.n
 
 abbrev pub decreases-due : goal.decreases-due
 decreases-due l = l.stop - l.i

@@ -1,8 +1,7 @@
-use Rattle.emission.proofs.Turns.{Ending}
+use Rattle.std.specs.Prelude.{replicate}
+use Rattle.layout.specs.Entry.{finish}
+use Rattle.emission.specs.Emit.{Emitted}
 use Rattle.emission.proofs.dues.ends.Given as goal
 
-abbrev pub invariant-loop-due : goal.invariant-loop-due
-invariant-loop-due l = Ending l.left l.due l.end l.initial.out l.out l.start
-
-abbrev pub decreases-loop-due : goal.decreases-loop-due
-decreases-loop-due l = l.due
+abbrev pub invariant-loop : goal.invariant-loop
+invariant-loop l = Emitted (replicate l.counter finish) l.fn.end l.initial.out l.out l.start

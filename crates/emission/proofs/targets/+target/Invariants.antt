@@ -2,4 +2,4 @@ use Prim.Native.Nat.{◌-◌}
 use Rattle.emission.proofs.targets.+target.Given as goal
 
 abbrev pub decreases-target : goal.decreases-target
-decreases-target l = l.stop - l.i
+decreases-target l = l.row.stop - l.row.from

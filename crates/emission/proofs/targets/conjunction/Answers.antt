@@ -1,19 +1,18 @@
-use native.Mathlib.Omega.{arith}
 use borrow.Author.Rules.{rules}
 use Rattle.emission.proofs.Turns.{conjunction_one, conjunction_more}
 use Rattle.emission.proofs.Emit.{as_is, fits_as}
 use Rattle.emission.proofs.targets.conjunction.Goals as goal
 
 pub match_entry-requires : goal.match_entry-requires
-match_entry-requires c = (search rules, fits_as _ (conjunction_one _ _ _ _ _ _ _ c.if-i-stop.true) c.requires.3, search rules, search rules, search rules)
+match_entry-requires c = (fits_as _ (conjunction_one _ _ _ _ _ _ _ c.if-node.true) c.requires.0, search rules, search rules, search rules)
 
-pub returns-then-i-stop : goal.returns-then-i-stop
-returns-then-i-stop c = as_is (conjunction_one _ _ _ _ _ _ _ c.if-i-stop.true) c.match_entry.ensures
+pub returns-then-node : goal.returns-then-node
+returns-then-node c = as_is (conjunction_one _ _ _ _ _ _ _ c.if-node.true) c.match_entry.ensures
 
 pub matches-requires : goal.matches-requires
 matches-requires c =
-    (omega (arith, c.requires.0, c.if-i-stop.false), search rules, search rules, fits_as _ (conjunction_more _ _ _ _ _ _ _ c.requires.0 c.if-i-stop.false) c.requires.3, search rules, search rules, c.requires.6)
+    (fits_as _ (conjunction_more _ _ _ _ _ _ _ c.args.node.some c.if-node.false) c.requires.0, search rules, search rules)
 
 pub returns : goal.returns
 returns c =
-    as_is (conjunction_more _ _ _ _ _ _ _ c.requires.0 c.if-i-stop.false) c.matches.ensures
+    as_is (conjunction_more _ _ _ _ _ _ _ c.args.node.some c.if-node.false) c.matches.ensures

@@ -1,12 +1,14 @@
-use Rattle.show.proofs.Laws.{count_none, depth_more, depth_end}
-use borrow.Author.Rules.{rules}
+use Rattle.operands.specs.Parent.{covers}
+use Rattle.show.proofs.Laws.{depth_is}
+use Rattle.std.proofs.lemmas.Iterator.{YieldsList-from_range}
+use Rattle.std.proofs.lemmas.Iterator.Consumers.{YieldsList-from_filter, YieldsList-at, count_from_yields_List}
+use Rattle.std.proofs.Common.{rules, tests, refl}
+use native.Mathlib.Omega.{arith}
 use Rattle.show.proofs.nesting.depth.Goals as goal
 
-pub loop-j-init : goal.loop-j-init
-loop-j-init c = (search rules, search rules, count_none _)
-
-pub loop-j-preserved : goal.loop-j-preserved
-loop-j-preserved c = (search rules, search rules, depth_more _ _ _ c.loop-j.invariant.2 c.covers.ensures c.choose-d.ensures.0)
-
 pub returns : goal.returns
-returns c = depth_end _ _ _ c.loop-j.invariant.0 c.loop-j-test.false c.loop-j.invariant.2
+returns c =
+    let i = c.args.i in
+    depth_is _ _ (count_from_yields_List c.filter.result _ c.count.ensures.ran (YieldsList-from_filter _ (covers c.args.book.now i)
+    (YieldsList-at c.filter.ensures.source (YieldsList-from_range 0 i i refl (omega arith))) c.filter.ensures.closure
+    (λ x b q k. search (rules, tests))))

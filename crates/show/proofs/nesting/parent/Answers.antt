@@ -1,12 +1,11 @@
-use Rattle.show.proofs.Laws.{last_none, parent_more, parent_end}
-use borrow.Author.Rules.{rules}
+use Rattle.operands.specs.Parent.{covers}
+use Rattle.show.proofs.Laws.{parent_is, YieldsList-from_below, steps_down}
+use Rattle.std.proofs.lemmas.Iterator.Search.{find_from_yields_List}
+use Rattle.std.proofs.Common.{rules, tests}
 use Rattle.show.proofs.nesting.parent.Goals as goal
 
-pub loop-j-init : goal.loop-j-init
-loop-j-init c = (search rules, search rules, last_none _)
-
-pub loop-j-preserved : goal.loop-j-preserved
-loop-j-preserved c = (search rules, search rules, parent_more _ _ _ c.loop-j.invariant.2 c.covers.ensures c.choose-p.ensures.0)
-
 pub returns : goal.returns
-returns c = (parent_end _ _ _ c.loop-j.invariant.0 c.loop-j-test.false c.loop-j.invariant.2, c.loop-j.invariant.1)
+returns c =
+    let i = c.args.i in
+    parent_is _ _ c.rfind.result c.unwrap_or.ensures (find_from_yields_List {steps = steps_down} (covers c.args.book.now i) _ _ c.rfind.result
+    c.rfind.ensures.ran (YieldsList-from_below i) (λ x b q k. search (rules, tests)))

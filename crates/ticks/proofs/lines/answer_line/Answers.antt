@@ -1,18 +1,10 @@
 use mathlib.Core.Path.{ap, ◌∙◌}
 use Rattle.meaning.specs.Numbers.{number_of}
-use lib.ListN.{length-set}
-use native.Mathlib.Omega.{arith}
 use Rattle.ticks.proofs.Printed.{running_put, finished_put, refused_put}
 use Rattle.ticks.proofs.lines.answer_line.Goals as goal
 
-pub bounds-out-1 : goal.bounds-out-1
-bounds-out-1 c = simp length-set (omega arith)
-
-pub bounds-out-2 : goal.bounds-out-2
-bounds-out-2 c = simp length-set (omega arith)
-
 pub returns-in-Running : goal.returns-in-Running
-returns-in-Running c = running_put c.args.out.now c.args.places.now c.requires.1 c.in-Running.is
+returns-in-Running c = running_put c.args.out.now c.args.places.now c.copy_from_slice.ensures.after c.in-Running.is
 
 pub returns-in-Finished : goal.returns-in-Finished
 returns-in-Finished c =

@@ -1,8 +1,8 @@
 use Rattle.emission.proofs.Turns.{Going, obligations_to}
 use Rattle.translator.proofs.policies.obligations.Given as goal
 
-abbrev pub invariant-loop-next : goal.invariant-loop-next
-invariant-loop-next l = Going l.book l.elders l.i l.stop l.next l.at (obligations_to l.book l.stop l.next) l.end l.initial.out l.out l.start
+abbrev pub invariant-loop-child : goal.invariant-loop-child
+invariant-loop-child l = Going l.node l.row (obligations_to l.node.book.now l.node.stop l.row.next) l.end l.initial.out l.out l.start
 
-abbrev pub decreases-loop-next : goal.decreases-loop-next
-decreases-loop-next l = l.next
+abbrev pub decreases-loop-child : goal.decreases-loop-child
+decreases-loop-child l = l.row.next

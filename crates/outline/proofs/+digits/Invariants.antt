@@ -1,4 +1,0 @@
-use Rattle.outline.proofs.+digits.Given as goal
-
-abbrev pub decreases-digits : goal.decreases-digits
-decreases-digits l = l.more

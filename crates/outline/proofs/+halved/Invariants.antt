@@ -1,4 +1,0 @@
-use Rattle.outline.proofs.+halved.Given as goal
-
-abbrev pub decreases-halved : goal.decreases-halved
-decreases-halved l = l.k

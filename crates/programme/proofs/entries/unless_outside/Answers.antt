@@ -1,7 +1,0 @@
-use Rattle.programme.proofs.entries.unless_outside.Goals as goal
-
-pub returns-then-ok : goal.returns-then-ok
-returns-then-ok c = rw c.if-ok.true
-
-pub returns : goal.returns
-returns c = rw c.if-ok.false
