@@ -48,7 +48,8 @@ module _ (b q places : List ℕ) {a : Outcome} {after : List ℕ}
       let puts = decided_puts b q places outcome e left kept in
       let few : length (duties_of b q) ≤ most_records = omega (arith, length-take n after, ap length puts.1) in
       rw (line_is e)
-      (stands (decision_line (number_of (decision_in d)) (duties_of b q)) l later m (omega (arith, length_decision (number_of (decision_in d)) (duties_of b q))) (rw (puts.1, number) at p) (rw (puts.1, number) at w))
+      (stands (decision_line (number_of (decision_in d)) (duties_of b q)) l later m (omega (arith, length_decision (number_of (decision_in d)) (duties_of b q)))
+      (rw (puts.1, number) at p) (rw (puts.1, number) at w))
 
 -- what is printed, by what was read
 module _ (text asked records entries : List ℕ) {a : Filled} (long : length records ≡ (size * most_records)) (book-read : a ≡ read_of book text (length records)) where

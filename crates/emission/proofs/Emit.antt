@@ -248,7 +248,14 @@ module _ (b : List ℕ) where
       → Three (condition_code b i s n) (opens Not ∷ []) (condition_code b (i + 1) t 0) (close n ∷ [])
   unfolding condition_code condition_at code_condition conditions_in
   condition_not i s t n p e g =
-      record { joined = rw (ne_eqb (byte_of b i 1) 1 (λ z. omega (arith, e, z)), ne_eqb (byte_of b i 1) 2 (λ z. omega (arith, e, z)), eq-eqb (byte_of b i 1) 3 e, forest_more b (i + 1) (s - 1) p g) refl }
+      record {
+        joined = rw (
+          ne_eqb (byte_of b i 1) 1 (λ z. omega (arith, e, z)),
+          ne_eqb (byte_of b i 1) 2 (λ z. omega (arith, e, z)),
+          eq-eqb (byte_of b i 1) 3 e,
+          forest_more b (i + 1) (s - 1) p g,
+        ) refl;
+      }
 
   pub condition_parts : (i s n : ℕ) → (byte_of b i 1 ≡ 0 → ⊥) → byte_of b i 1 ≤ 3 → (byte_of b i 1 ≡ 3 → ⊥)
       → Three (condition_code b i s n) (opens (op_at (byte_of b i 1)) ∷ []) (conditions_code b (i + 1) (s - 1)) (close n ∷ [])
@@ -256,7 +263,11 @@ module _ (b : List ℕ) where
   condition_parts i s n p q r = go (eqb (byte_of b i 1) 1) refl
     where
       go : (x : Bool) → eqb (byte_of b i 1) 1 ≡ x
-          → Three (code_condition (if (eqb (byte_of b i 1) 1) (all (conditions_in b (below b i s))) (if (eqb (byte_of b i 1) 2) (any (conditions_in b (below b i s))) (if (eqb (byte_of b i 1) 3) (not_at b i (conditions_in b (below b i s))) (if (ltb 20 (byte_of b i 1)) (weighs_at b i (exprs_in b (below b i s))) (compares (comparison_at b i)))))) n)
+          → Three (code_condition
+          (if (eqb (byte_of b i 1) 1) (all (conditions_in b (below b i s)))
+          (if (eqb (byte_of b i 1) 2) (any (conditions_in b (below b i s)))
+          (if (eqb (byte_of b i 1) 3) (not_at b i (conditions_in b (below b i s)))
+          (if (ltb 20 (byte_of b i 1)) (weighs_at b i (exprs_in b (below b i s))) (compares (comparison_at b i)))))) n)
           (opens (if (eqb (byte_of b i 1) 1) All Any) ∷ []) (code_conditions (conditions_in b (below b i s))) (close n ∷ [])
       go true e = record { joined = rw e refl }
       go false e = record { joined = rw (e, eq-eqb (byte_of b i 1) 2 (two e)) refl }

@@ -235,7 +235,8 @@ module _ {b t : List ℕ} {i stop place ends : ℕ} {book elders book₁ elders�
 
 -- the first child of a record, and that it has none
 module _ {b c t u : List ℕ} {i j stop end : ℕ} (e : (b ≡ c) × (t ≡ u) × (i ≡ j) × (stop ≡ end)) where
-  pub first_child : {book elders book₁ elders₁ : List ℕ} {place ends from upto : ℕ} → First b t i stop book elders place ends book₁ elders₁ from upto → First c u j end book elders place ends book₁ elders₁ from upto
+  pub first_child : {book elders book₁ elders₁ : List ℕ} {place ends from upto : ℕ} → First b t i stop book elders place ends book₁ elders₁ from upto
+      → First c u j end book elders place ends book₁ elders₁ from upto
   first_child p = rw (e.0, e.1, e.2, e.3) at p
 
   pub no_child : stop ≤ i → end ≤ j
@@ -413,7 +414,8 @@ policy_to b i stop k m e =
     rw f at (body_policy b i (stop - i) k m e₁)
 
 pub body_to : (b : List ℕ) (i stop k : ℕ) → k ≡ length (obligations_code b (i + 1) (stop - (i + 1)))
-    → Three (body_code b i (stop - i)) (if (is_kind b i 1) (trees_code b (i + 1) (stop - (i + 1)) (choice_at b i)) (rules_code b (i + 1) (stop - (i + 1)))) (conclude k ∷ []) (obligations_code b (i + 1) (stop - (i + 1)))
+    → Three (body_code b i (stop - i)) (if (is_kind b i 1) (trees_code b (i + 1) (stop - (i + 1)) (choice_at b i)) (rules_code b (i + 1) (stop - (i + 1))))
+    (conclude k ∷ []) (obligations_code b (i + 1) (stop - (i + 1)))
 body_to b i stop k e =
     let f = kids_left i stop in
     let e₁ : k ≡ length (obligations_code b (i + 1) (stop - i - 1)) = rw f e in
@@ -501,14 +503,16 @@ one_more many g f =
     follows {xs = finish ∷ []} (record { joined = sym e }) g f
 
 -- as many as there are to be
-pub all_ends : (left many : ℕ) {end start : ℕ} {o o₁ : List ℕ} → Emitted (replicate many finish) end o o₁ start → many ≡ suc ((left - 1) / 2) → Emitted (replicate (suc ((left - 1) / 2)) finish) end o o₁ start
+pub all_ends : (left many : ℕ) {end start : ℕ} {o o₁ : List ℕ} → Emitted (replicate many finish) end o o₁ start → many ≡ suc ((left - 1) / 2)
+    → Emitted (replicate (suc ((left - 1) / 2)) finish) end o o₁ start
 all_ends left many g e = as_is (ap (λ (k : ℕ). replicate k finish) (sym e)) g
 
 pub due_by : (b : List ℕ) (m : ℕ) (e : Effect) {k r : ℕ} → k ≡ byte_of b 0 0 → r ≡ due_in b 1 m e (eqb k 1) → r ≡ due_in b 1 m e (is_kind b 0 1)
 due_by b m e f g = rw (← f) g
 
 -- the whole programme, its top record ending at n
-pub programme_to : (b : List ℕ) (n : ℕ) {i p d : ℕ} → (i ≡ 0) × (length b ≡ n * size) → p ≡ due_in b (i + 1) (n - (i + 1)) Permits (is_kind b i 1) → d ≡ due_in b (i + 1) (n - (i + 1)) Denies (is_kind b i 1)
+pub programme_to : (b : List ℕ) (n : ℕ) {i p d : ℕ} → (i ≡ 0) × (length b ≡ n * size) → p ≡ due_in b (i + 1) (n - (i + 1)) Permits (is_kind b i 1)
+    → d ≡ due_in b (i + 1) (n - (i + 1)) Denies (is_kind b i 1)
     → Three (translated (book_of b)) (begin (algorithm_at b i) p ∷ []) (within_code b i (n - i) 3 0) (replicate (suc ((d - 1) / 2)) finish)
 programme_to b n {i} {p} {d} e f g =
     let f₁ : p ≡ due_in b 1 (n - 1) Permits (is_kind b 0 1) = rw e.0 at f in

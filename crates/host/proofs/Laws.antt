@@ -46,7 +46,17 @@ unfolding pairs_of
 pairs_more ps l o k {x} ex h g e =
     let c : (k + 1) * 2 ≡ k * 2 + 2 = omega arith in
     let n : length (pairs_of (take k ps)) ≡ k * 2 = pairs_length (take k ps) ∙ ap (λ z. z * 2) (length-take-le k ps (omega arith)) in
-    rw (e, drop_two l (k * 2) g, set_two (pairs_of (take k ps)) (drop (k * 2 + 2) l) (get_or l (k * 2) 0) (get_or l (k * 2 + 1) 0) (x / 256) (x % 256) (k * 2) n, c, add-one k, take-suc ps k 0 h, pairs_both (take k ps) (get_or ps k 0 ∷ []), ← ex)
+    rw (
+      e,
+      drop_two l (k * 2) g,
+      set_two (pairs_of (take k ps)) (drop (k * 2 + 2) l) (get_or l (k * 2) 0) (get_or l (k * 2 + 1) 0) (x / 256) (x % 256) (k * 2)
+          n,
+      c,
+      add-one k,
+      take-suc ps k 0 h,
+      pairs_both (take k ps) (get_or ps k 0 ∷ []),
+      ← ex,
+    )
     (sym (append_assoc (pairs_of (take k ps)) (x / 256 ∷ x % 256 ∷ []) (drop (k * 2 + 2) l)))
 
 -- the answers

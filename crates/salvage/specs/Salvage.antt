@@ -7,7 +7,7 @@ use Rattle.text.specs.Text.{book, lf, line_length, read_of, byte_at, text_at, Fi
 use Rattle.text.specs.Wrong.{zeroed}
 use Rattle.line.specs.Line.{hex_of, refusal_line}
 use Rattle.mending.specs.Mending.{Replacement, Salvage, Mended, Spoilt, salvage_of}
-use Rattle.mending.specs.Salvaged.{answer_of, records_in, Salvaged, mended_with}
+use Rattle.mending.specs.Salvaged.{answer_of, records_in, Salvaged}
 
 -- a line a replacement: its first old line and its old count, four digits each
 unfoldable pub lines_of : List Replacement → List ℕ

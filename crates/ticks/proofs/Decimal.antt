@@ -43,6 +43,7 @@ budget_large word i h l =
     let g : decimal_of word (i + 1) ≤ decimal_of word (length word) = rw e at (decimal_grows word (i + 1) (length word - (i + 1))) in
     simp (lt-ltb 0 (length word) (omega arith), lt-leb (decimal_of word (length word)) 18446744073709551615 (omega arith), both_false (all_below (is_decimal word) (length word)))
 
-pub budget_done : (word : List ℕ) (i : ℕ) {n : ℕ} → 0 < length word → i ≡ length word → all_below (is_decimal word) i ≡ true → n ≡ decimal_of word i → n ≤ 18446744073709551615 → Some n ≡ budget_of word
+pub budget_done : (word : List ℕ) (i : ℕ) {n : ℕ} → 0 < length word → i ≡ length word → all_below (is_decimal word) i ≡ true → n ≡ decimal_of word i
+    → n ≤ 18446744073709551615 → Some n ≡ budget_of word
 unfolding budget_of
 budget_done word i h e a d l = rw (d, e) (simp (lt-ltb 0 (length word) h, rw e at a, le-leb (decimal_of word (length word)) 18446744073709551615 (omega (arith, rw (d, e) at l))))

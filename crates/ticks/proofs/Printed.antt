@@ -40,7 +40,8 @@ module _ (l places : List ℕ) {later : List ℕ} {n : ℕ} (room : longest ≤ 
       → n ≡ places_of (decision_line x (take count places)) (length l) → later ≡ put (decision_line x (take count places)) l → Leads (answer_line a places) l later n
   unfolding answer_line
   finished_put d count e number p q =
-      rw e (found (decision_line (number_of (decision_in d)) (take count places)) (omega (arith, length_decision (number_of (decision_in d)) (take count places), length-take count places)) (rw number at p) (rw number at q))
+      rw e (found (decision_line (number_of (decision_in d)) (take count places))
+      (omega (arith, length_decision (number_of (decision_in d)) (take count places), length-take count places)) (rw number at p) (rw number at q))
 
   pub refused_put : (r : Refusal) {a : Answer} → a ≡ Refused r → n ≡ places_of (refusal_line r) (length l) → later ≡ put (refusal_line r) l → Leads (answer_line a places) l later n
   unfolding answer_line

@@ -23,8 +23,12 @@ slice_bounds-decide-end-4 c = simp length-take (omega (arith, read_fits _ _ _ _ 
 pub returns : goal.returns
 returns c =
     let a = c.args in
-    let s = decided_stands _ _ a.places.now c.requires.2 c.decide.ensures.0 c.decide.ensures.1 _ _ a.out.now c.in_ok-ruling.was (c.number-number.ensures.0 ∙ ap number_of c.decision_in.ensures) c.decide.auto.out c.requires.3 c.decision_line.ensures.0 c.decision_line.ensures.1 in
-    (s.0, s.1 ∙ printed_decided a.book.now a.request.now a.records.now a.entries.now c.requires.0 c.read_book.ensures.0 _ c.in_ok-n.was c.read_book.ensures.1 c.requires.1 c.read_request.ensures.0 _ c.in_ok-m.was c.read_request.ensures.1)
+    let s = decided_stands _ _ a.places.now c.requires.2 c.decide.ensures.0 c.decide.ensures.1 _ _ a.out.now c.in_ok-ruling.was
+    (c.number-number.ensures.0 ∙ ap number_of c.decision_in.ensures) c.decide.auto.out c.requires.3 c.decision_line.ensures.0 c.decision_line.ensures.1 in (
+      s.0,
+      s.1 ∙ printed_decided a.book.now a.request.now a.records.now a.entries.now c.requires.0 c.read_book.ensures.0 _ c.in_ok-n.was c.read_book.ensures.1
+          c.requires.1 c.read_request.ensures.0 _ c.in_ok-m.was c.read_request.ensures.1,
+    )
 
 pub returns-in_err-n : goal.returns-in_err-n
 returns-in_err-n c =
@@ -36,10 +40,19 @@ pub returns-in_err-m : goal.returns-in_err-m
 returns-in_err-m c =
     let a = c.args in
     let e : c.from_residual-in_err-m.result ≡ Err c.in_err-m.field-0.0 = grind (arith, common_steps) in
-    rw e (printed_request a.book.now a.request.now a.records.now a.entries.now c.requires.0 c.read_book.ensures.0 _ c.in_ok-n.was c.read_book.ensures.1 c.requires.1 c.read_request.ensures.0 _ c.in_err-m.was, refl)
+    rw e (
+      printed_request a.book.now a.request.now a.records.now a.entries.now c.requires.0 c.read_book.ensures.0 _ c.in_ok-n.was c.read_book.ensures.1
+          c.requires.1 c.read_request.ensures.0 _ c.in_err-m.was,
+      refl,
+    )
 
 pub returns-in_err-ruling : goal.returns-in_err-ruling
 returns-in_err-ruling c =
     let a = c.args in
     let e : c.from_residual-in_err-ruling.result ≡ Err c.in_err-ruling.field-0.0 = grind (arith, common_steps) in
-    rw e (decided_refused _ _ a.places.now c.requires.2 c.decide.ensures.0 c.decide.ensures.1 _ c.in_err-ruling.was ∙ printed_decided a.book.now a.request.now a.records.now a.entries.now c.requires.0 c.read_book.ensures.0 _ c.in_ok-n.was c.read_book.ensures.1 c.requires.1 c.read_request.ensures.0 _ c.in_ok-m.was c.read_request.ensures.1, refl)
+    rw e (
+      decided_refused _ _ a.places.now c.requires.2 c.decide.ensures.0 c.decide.ensures.1 _ c.in_err-ruling.was
+          ∙ printed_decided a.book.now a.request.now a.records.now a.entries.now c.requires.0 c.read_book.ensures.0 _ c.in_ok-n.was c.read_book.ensures.1
+          c.requires.1 c.read_request.ensures.0 _ c.in_ok-m.was c.read_request.ensures.1,
+      refl,
+    )

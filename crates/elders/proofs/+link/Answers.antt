@@ -11,11 +11,20 @@ loop-i-init t c = linking_begin _ _ _ _ (omega (arith, c.if-from-stop.false, c.r
 
 pub link-requires : goal.link-requires
 link-requires t c =
-    let f = first_le c.loop-i.invariant.row in let n = next_le c.loop-i.invariant c.loop-i-test.true c.span_in-s.ensures.0 in (omega (arith, f, n), (omega (arith, next_lt c.loop-i.invariant c.loop-i-test.true c.span_in-s.ensures.0), omega (arith, n, c.requires.1), omega (arith, n, c.requires.2), omega (arith, n, c.requires.3, c.loop-i.invariant.kept.long, length-set c.loop-i.elders c.loop-i.i c.narrow.result)))
+    let f = first_le c.loop-i.invariant.row in let n = next_le c.loop-i.invariant c.loop-i-test.true c.span_in-s.ensures.0 in (
+      omega (arith, f, n),
+      (
+        omega (arith, next_lt c.loop-i.invariant c.loop-i-test.true c.span_in-s.ensures.0),
+        omega (arith, n, c.requires.1),
+        omega (arith, n, c.requires.2),
+        omega (arith, n, c.requires.3, c.loop-i.invariant.kept.long, length-set c.loop-i.elders c.loop-i.i c.narrow.result),
+      ),
+    )
 
 pub loop-i-preserved : goal.loop-i-preserved
 loop-i-preserved t c =
-    linking_more c.loop-i.invariant c.loop-i-test.true c.span_in-s.ensures.0 c.narrow.ensures (omega (arith, c.loop-i.invariant.kept.long, c.loop-i-test.true, c.requires.3)) c.link.ensures.0 c.link.ensures.1
+    linking_more c.loop-i.invariant c.loop-i-test.true c.span_in-s.ensures.0 c.narrow.ensures
+    (omega (arith, c.loop-i.invariant.kept.long, c.loop-i-test.true, c.requires.3)) c.link.ensures.0 c.link.ensures.1
 
 pub returns : goal.returns
 returns t c =

@@ -29,4 +29,5 @@ returns-in-Err c =
 pub returns-in-Ok : goal.returns-in-Ok
 returns-in-Ok c =
     let a = c.args in
-    host_decided a.book.now a.request.now a.places.now a.out.now c.requires c.decide.ensures.0 c.in-Ok.is c.decide.ensures.1 c.decide.auto.out c.put_pairs.ensures c.put_pairs.auto.out c.clear.ensures c.decided.ensures
+    host_decided a.book.now a.request.now a.places.now a.out.now c.requires c.decide.ensures.0 c.in-Ok.is c.decide.ensures.1 c.decide.auto.out
+    c.put_pairs.ensures c.put_pairs.auto.out c.clear.ensures c.decided.ensures

@@ -12,7 +12,8 @@ loop-i-init c = (refl, rw sub-zero)
 pub loop-i-preserved : goal.loop-i-preserved
 loop-i-preserved c = (
   simp length-set (omega (arith, c.four_digits-in-loop-i.auto.out, c.four_digits.auto.out, c.loop-i.invariant.0)),
-  lines_more _ _ c.loop-i.i _ c.loop-i-test.true (c.from.ensures ∙ c.big2.ensures) (c.from-in-loop-i.ensures ∙ c.big2-in-loop-i.ensures) c.four_digits.ensures c.four_digits-in-loop-i.ensures ∙ c.loop-i.invariant.1,
+  lines_more _ _ c.loop-i.i _ c.loop-i-test.true (c.from.ensures ∙ c.big2.ensures) (c.from-in-loop-i.ensures ∙ c.big2-in-loop-i.ensures) c.four_digits.ensures
+      c.four_digits-in-loop-i.ensures ∙ c.loop-i.invariant.1,
 )
 
 pub returns : goal.returns

@@ -17,4 +17,5 @@ single-requires c =
 
 pub returns : goal.returns
 returns c =
-    three (programme_to _ _ c.requires.0 c.requires.3.1 c.requires.3.2) c.ends-foot.ensures c.within-head.ensures (begun _ _ (code_of c.code-algorithm.ensures.0 c.algorithm_at.ensures) c.single.ensures)
+    three (programme_to _ _ c.requires.0 c.requires.3.1 c.requires.3.2) c.ends-foot.ensures c.within-head.ensures
+    (begun _ _ (code_of c.code-algorithm.ensures.0 c.algorithm_at.ensures) c.single.ensures)

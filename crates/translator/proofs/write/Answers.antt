@@ -9,8 +9,16 @@ count-many-requires c =
 
 pub programme-requires : goal.programme-requires
 programme-requires c =
-    let e = c.count-many.ensures in
-    ((refl, c.requires.2), omega (arith, e), omega (arith, e, c.requires.1), (omega (arith, c.due-permits.ensures.1, c.requires.1), due_by _ _ _ c.byte-set.ensures.0 c.due-permits.ensures.0, due_by _ _ _ c.byte-set.ensures.0 c.due-denies.ensures.0))
+    let e = c.count-many.ensures in (
+      (refl, c.requires.2),
+      omega (arith, e),
+      omega (arith, e, c.requires.1),
+      (
+        omega (arith, c.due-permits.ensures.1, c.requires.1),
+        due_by _ _ _ c.byte-set.ensures.0 c.due-permits.ensures.0,
+        due_by _ _ _ c.byte-set.ensures.0 c.due-denies.ensures.0,
+      ),
+    )
 
 pub returns : goal.returns
 returns c =

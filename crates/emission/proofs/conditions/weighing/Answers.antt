@@ -17,21 +17,38 @@ comparison-requires-then-second-node c =
 
 pub returns-then-second-node : goal.returns-then-second-node
 returns-then-second-node c =
-    as_is (weighing_few _ _ _ _ c.args.node.some c.choice-choice.ensures.0 c.if-choice-le-WEIGHS.false (same_as c.second_in-second.ensures.0 c.if-second-node.true)) c.comparison-then-second-node.ensures
+    as_is (weighing_few _ _ _ _ c.args.node.some c.choice-choice.ensures.0 c.if-choice-le-WEIGHS.false
+    (same_as c.second_in-second.ensures.0 c.if-second-node.true)) c.comparison-then-second-node.ensures
 
 pub single-foot-requires : goal.single-foot-requires
-single-foot-requires c =
-    (third_fits (weighing_two _ _ _ _ c.args.node.some c.choice-choice.ensures.0 c.if-choice-le-WEIGHS.false c.second_in-second.ensures.0 (before_stop c.second_in-second.ensures.2 c.if-second-node.false) c.type_at-kind.ensures.0) _ c.requires.1, search rules, search rules)
+single-foot-requires c = (
+  third_fits (weighing_two _ _ _ _ c.args.node.some c.choice-choice.ensures.0 c.if-choice-le-WEIGHS.false c.second_in-second.ensures.0
+      (before_stop c.second_in-second.ensures.2 c.if-second-node.false) c.type_at-kind.ensures.0) _ c.requires.1,
+  search rules,
+  search rules,
+)
 
 pub piece-test-requires : goal.piece-test-requires
-piece-test-requires c =
-    (second_fits (weighing_two _ _ _ _ c.args.node.some c.choice-choice.ensures.0 c.if-choice-le-WEIGHS.false c.second_in-second.ensures.0 (before_stop c.second_in-second.ensures.2 c.if-second-node.false) c.type_at-kind.ensures.0) c.requires.1 (closes _ c.single-foot.ensures), search rules, search rules)
+piece-test-requires c = (
+  second_fits (weighing_two _ _ _ _ c.args.node.some c.choice-choice.ensures.0 c.if-choice-le-WEIGHS.false c.second_in-second.ensures.0
+      (before_stop c.second_in-second.ensures.2 c.if-second-node.false) c.type_at-kind.ensures.0) c.requires.1 (closes _ c.single-foot.ensures),
+  search rules,
+  search rules,
+)
 
 pub operands-requires : goal.operands-requires
 operands-requires c =
-    let short = before_stop c.second_in-second.ensures.2 c.if-second-node.false in
-    (c.args.node.some, c.args.node.bytes, c.second_in-second.ensures.0, short, first_fits (weighing_two _ _ _ _ c.args.node.some c.choice-choice.ensures.0 c.if-choice-le-WEIGHS.false c.second_in-second.ensures.0 short c.type_at-kind.ensures.0) c.requires.1 (closes _ c.single-foot.ensures) (tested _ c.function_of-f.ensures c.code.ensures.0 c.piece-test.ensures))
+    let short = before_stop c.second_in-second.ensures.2 c.if-second-node.false in (
+      c.args.node.some,
+      c.args.node.bytes,
+      c.second_in-second.ensures.0,
+      short,
+      first_fits (weighing_two _ _ _ _ c.args.node.some c.choice-choice.ensures.0 c.if-choice-le-WEIGHS.false c.second_in-second.ensures.0 short
+          c.type_at-kind.ensures.0) c.requires.1 (closes _ c.single-foot.ensures) (tested _ c.function_of-f.ensures c.code.ensures.0 c.piece-test.ensures),
+    )
 
 pub returns : goal.returns
 returns c =
-    three (weighing_two _ _ _ _ c.args.node.some c.choice-choice.ensures.0 c.if-choice-le-WEIGHS.false c.second_in-second.ensures.0 (before_stop c.second_in-second.ensures.2 c.if-second-node.false) c.type_at-kind.ensures.0) (closes _ c.single-foot.ensures) (tested _ c.function_of-f.ensures c.code.ensures.0 c.piece-test.ensures) c.operands.ensures
+    three (weighing_two _ _ _ _ c.args.node.some c.choice-choice.ensures.0 c.if-choice-le-WEIGHS.false c.second_in-second.ensures.0
+    (before_stop c.second_in-second.ensures.2 c.if-second-node.false) c.type_at-kind.ensures.0) (closes _ c.single-foot.ensures)
+    (tested _ c.function_of-f.ensures c.code.ensures.0 c.piece-test.ensures) c.operands.ensures

@@ -11,11 +11,13 @@ loop-at-init t c =
 
 pub loop-at-preserved-then-kind-eq-OBLIGATION : goal.loop-at-preserved-then-kind-eq-OBLIGATION
 loop-at-preserved-then-kind-eq-OBLIGATION t c =
-    count_own c.loop-at.invariant c.in-Some.ensures.steps (same_as c.byte-kind.ensures.0 c.if-kind-eq-OBLIGATION.true) (effect_at c.byte.ensures.0 c.effect_code.ensures.0) c.effect_code-then-kind-eq-OBLIGATION.ensures.0 c.from-n.ensures
+    count_own c.loop-at.invariant c.in-Some.ensures.steps (same_as c.byte-kind.ensures.0 c.if-kind-eq-OBLIGATION.true)
+    (effect_at c.byte.ensures.0 c.effect_code.ensures.0) c.effect_code-then-kind-eq-OBLIGATION.ensures.0 c.from-n.ensures
 
 pub loop-at-preserved-then-is_party : goal.loop-at-preserved-then-is_party
 loop-at-preserved-then-is_party t c =
-    count_party c.loop-at.invariant c.in-Some.ensures.steps c.byte-kind.ensures.0 c.if-kind-eq-OBLIGATION.false (sym c.is_party.ensures ∙ c.if-is_party.true) c.if-set.true c.due-n.ensures.0 c.due-n.ensures.1
+    count_party c.loop-at.invariant c.in-Some.ensures.steps c.byte-kind.ensures.0 c.if-kind-eq-OBLIGATION.false (sym c.is_party.ensures ∙ c.if-is_party.true)
+    c.if-set.true c.due-n.ensures.0 c.due-n.ensures.1
 
 pub loop-at-preserved : goal.loop-at-preserved
 loop-at-preserved t c =

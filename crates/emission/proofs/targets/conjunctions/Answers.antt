@@ -6,8 +6,12 @@ pub loop-child-init : goal.loop-child-init
 loop-child-init c = go_begin (conjunctions_to _ _ _ _) _ _ (conjunctions_stop _ _ _ _) c.children-row.ensures
 
 pub conjunction-start-requires : goal.conjunction-start-requires
-conjunction-start-requires c =
-    (go_room (conjunctions_to _ _ _ _) c.loop-child.invariant c.in-Some.ensures.child (conjunctions_grow _ _ _ _) c.requires.0 (λ p k. conjunctions_turn _ _ _ _ p _ k), omega (arith, c.loop-child.invariant.done.starts, c.requires.1), omega (arith, c.loop-child.invariant.done.starts, c.requires.1))
+conjunction-start-requires c = (
+  go_room (conjunctions_to _ _ _ _) c.loop-child.invariant c.in-Some.ensures.child (conjunctions_grow _ _ _ _) c.requires.0
+      (λ p k. conjunctions_turn _ _ _ _ p _ k),
+  omega (arith, c.loop-child.invariant.done.starts, c.requires.1),
+  omega (arith, c.loop-child.invariant.done.starts, c.requires.1),
+)
 
 pub loop-child-preserved : goal.loop-child-preserved
 loop-child-preserved c =

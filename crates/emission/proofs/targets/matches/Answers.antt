@@ -6,8 +6,13 @@ pub loop-child-init : goal.loop-child-init
 loop-child-init c = go_begin (matches_to _ _ _ _ _ _) _ _ (matches_stop _ _ _ _ _ _) c.children-row.ensures
 
 pub match_entry-start-requires : goal.match_entry-start-requires
-match_entry-start-requires c =
-    (go_room (matches_to _ _ _ _ _ _) c.loop-child.invariant c.in-Some.ensures.child (matches_grow _ _ _ _ _ _) c.requires.0 (λ p k. matches_turn _ _ _ _ _ _ p _ k), search rules, search rules, search rules)
+match_entry-start-requires c = (
+  go_room (matches_to _ _ _ _ _ _) c.loop-child.invariant c.in-Some.ensures.child (matches_grow _ _ _ _ _ _) c.requires.0
+      (λ p k. matches_turn _ _ _ _ _ _ p _ k),
+  search rules,
+  search rules,
+  search rules,
+)
 
 pub loop-child-preserved : goal.loop-child-preserved
 loop-child-preserved c =

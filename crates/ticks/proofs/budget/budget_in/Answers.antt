@@ -31,13 +31,18 @@ pub returns-in_err-n : goal.returns-in_err-n
 returns-in_err-n c =
     let args = c.args in
     c.from_residual-in_err-n.ensures
-    ∙ budget_large _ c.loop-c.c-index c.loop-c-test.true (omega (arith, decimal_more args.word.now c.loop-c.c-index, c.loop-c.invariant.2, c.in_ok-checked_mul.ensures, c.in_err-n.ensures, c.from.ensures))
+    ∙ budget_large _ c.loop-c.c-index c.loop-c-test.true
+    (omega (arith, decimal_more args.word.now c.loop-c.c-index, c.loop-c.invariant.2, c.in_ok-checked_mul.ensures, c.in_err-n.ensures, c.from.ensures))
 
 pub loop-c-preserved : goal.loop-c-preserved
 loop-c-preserved c =
     let args = c.args in
-    let digit = c.if-not-is_ascii_digit.ensures.cases in
-    (search rules, all_more (is_decimal args.word.now) c.loop-c.c-index c.loop-c.invariant.1 (in_among 48 57 _ digit.0 digit.1), omega (arith, decimal_more args.word.now c.loop-c.c-index, c.loop-c.invariant.2, c.in_ok-checked_mul.ensures, c.in_ok-n.ensures, c.from.ensures), search rules)
+    let digit = c.if-not-is_ascii_digit.ensures.cases in (
+      search rules,
+      all_more (is_decimal args.word.now) c.loop-c.c-index c.loop-c.invariant.1 (in_among 48 57 _ digit.0 digit.1),
+      omega (arith, decimal_more args.word.now c.loop-c.c-index, c.loop-c.invariant.2, c.in_ok-checked_mul.ensures, c.in_ok-n.ensures, c.from.ensures),
+      search rules,
+    )
 
 pub returns : goal.returns
 returns c = budget_done _ c.loop-c.c-index c.loop-c.invariant.0 (search rules) c.loop-c.invariant.1 c.loop-c.invariant.2 c.loop-c.invariant.3

@@ -8,7 +8,8 @@ returns-in-Running c = running_put c.args.out.now c.args.places.now c.copy_from_
 
 pub returns-in-Finished : goal.returns-in-Finished
 returns-in-Finished c =
-    finished_put c.args.out.now c.args.places.now c.requires.1 c.requires.0 _ _ c.in-Finished.is (c.number.ensures.0 ∙ ap number_of c.decision_in.ensures) c.decision_line.ensures.0 c.decision_line.ensures.1
+    finished_put c.args.out.now c.args.places.now c.requires.1 c.requires.0 _ _ c.in-Finished.is (c.number.ensures.0 ∙ ap number_of c.decision_in.ensures)
+    c.decision_line.ensures.0 c.decision_line.ensures.1
 
 pub returns-in-Refused : goal.returns-in-Refused
 returns-in-Refused c =

@@ -8,12 +8,18 @@ pub loop-child-init : goal.loop-child-init
 loop-child-init c = go_begin (obligations_to _ _) _ _ (obligations_stop _ _) c.children-row.ensures
 
 pub single-start-requires : goal.single-start-requires
-single-start-requires c =
-    (go_room (obligations_to _ _) c.loop-child.invariant c.in-Some.ensures.child (obligations_grow _ _) c.requires (λ p k. obligations_turn _ _ p (same_as c.kind.ensures.0 c.if-kind-eq-OBLIGATION.true)), search rules, search rules)
+single-start-requires c = (
+  go_room (obligations_to _ _) c.loop-child.invariant c.in-Some.ensures.child (obligations_grow _ _) c.requires
+      (λ p k. obligations_turn _ _ p (same_as c.kind.ensures.0 c.if-kind-eq-OBLIGATION.true)),
+  search rules,
+  search rules,
+)
 
 pub loop-child-preserved-then-kind-eq-OBLIGATION : goal.loop-child-preserved-then-kind-eq-OBLIGATION
 loop-child-preserved-then-kind-eq-OBLIGATION c =
-    go_again (obligations_to _ _) c.loop-child.invariant c.in-Some.ensures.child c.take_last.ensures.parent (λ p k. obligations_turn _ _ p (same_as c.kind.ensures.0 c.if-kind-eq-OBLIGATION.true)) (obliged _ _ (effect_at c.choice.ensures.0 c.effect_code-effect.ensures.0) (c.from.ensures ∙ c.big2-n.ensures) c.single-start.ensures)
+    go_again (obligations_to _ _) c.loop-child.invariant c.in-Some.ensures.child c.take_last.ensures.parent
+    (λ p k. obligations_turn _ _ p (same_as c.kind.ensures.0 c.if-kind-eq-OBLIGATION.true))
+    (obliged _ _ (effect_at c.choice.ensures.0 c.effect_code-effect.ensures.0) (c.from.ensures ∙ c.big2-n.ensures) c.single-start.ensures)
 
 pub loop-child-preserved : goal.loop-child-preserved
 loop-child-preserved c =

@@ -7,12 +7,16 @@ pub loop-child-init : goal.loop-child-init
 loop-child-init c = go_begin (rules_to _ _) _ _ (rules_stop _ _) c.children-row.ensures
 
 pub rule-start-requires : goal.rule-start-requires
-rule-start-requires c =
-    (go_room (rules_to _ _) c.loop-child.invariant c.in-Some.ensures.child (rules_grow _ _) c.requires.0 (λ p k. rules_turn _ _ p _ (same_as c.kind.ensures.0 c.if-kind-eq-RULE.true) k), omega (arith, c.loop-child.invariant.done.starts, c.requires.1))
+rule-start-requires c = (
+  go_room (rules_to _ _) c.loop-child.invariant c.in-Some.ensures.child (rules_grow _ _) c.requires.0
+      (λ p k. rules_turn _ _ p _ (same_as c.kind.ensures.0 c.if-kind-eq-RULE.true) k),
+  omega (arith, c.loop-child.invariant.done.starts, c.requires.1),
+)
 
 pub loop-child-preserved-then-kind-eq-RULE : goal.loop-child-preserved-then-kind-eq-RULE
 loop-child-preserved-then-kind-eq-RULE c =
-    go_again (rules_to _ _) c.loop-child.invariant c.in-Some.ensures.child c.take_last.ensures.parent (λ p k. rules_turn _ _ p _ (same_as c.kind.ensures.0 c.if-kind-eq-RULE.true) k) c.rule-start.ensures
+    go_again (rules_to _ _) c.loop-child.invariant c.in-Some.ensures.child c.take_last.ensures.parent
+    (λ p k. rules_turn _ _ p _ (same_as c.kind.ensures.0 c.if-kind-eq-RULE.true) k) c.rule-start.ensures
 
 pub loop-child-preserved : goal.loop-child-preserved
 loop-child-preserved c =
