@@ -161,7 +161,7 @@ pub fn break_field(random: &mut Random, record: &mut Record) {
         1 => record.0[1] = random.pick(&[0, 3, 4, 5, 6, 9, 10, 16, 20, 26, 128, 255]),
         2 => record.set_span(random.pick(&[0, 0, 1, 2, 256])),
         3 if has_category => record.0[4] = random.pick(&[0, 5, 128, 255]),
-        4 if literal && random.chance(50) => record.0[5] += MUST_BE_PRESENT,
+        4 if literal && random.chance(50) => record.0[5] |= MUST_BE_PRESENT,
         4 if test || literal || attribute => record.0[5] = random.pick(&[0, 4, 64, 127, 128, 132, 255]),
         5 if test || literal => {
             record.0[5] = DOUBLE + if literal { 0 } else { random.pick(&[0, MUST_BE_PRESENT]) };
