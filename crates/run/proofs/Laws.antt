@@ -61,6 +61,10 @@ number_on k start h = rw (add-one k) refl
 pub apart_on : (k start : ℕ) (h : Head) → Ranged h → h ≡ unpack_of (number_after (k + 1) start h)
 apart_on k start h r = rw (number_on k start h) (sym (ranged_back h r))
 
+-- the first number after k steps, from the one in the state, which is still the one that was lent
+pub number_from : (k : ℕ) (h : Head) {x y start : ℕ} → x ≡ number_after k y h → y ≡ start → x ≡ number_after k start h
+number_from k h e f = e ∙ ap (λ (n : ℕ). number_after k n h) f
+
 -- k steps have led to w, and a step from w is a step from t
 module _ (p : List ℕ) (g : Bags) (b k : ℕ) (s w t : State) (l : k < b) (i : Along p g b s k w) (o : Bool) (over : is_over w ≡ o)
     (same_may : may_step p w ≡ may_step p t) (same_step : step_of p g w ≡ step_of p g t) where
@@ -142,12 +146,9 @@ module _ (h : Head) where
   pub answer_finished : (n : ℕ) → n ≡ count_by h.found.reg h → h.over ≡ true → Finished h.found.reg n ≡ told h.over h
   answer_finished n c e = rw c (sym (ap (λ (b : Bool). told b h) e))
 
--- what is left of a lent state that was run
-pub ended_bad : (r : Ran) {x : Option ℕ} {u t : State} {k : ℕ} → r ≡ record { ok = false; state = t; steps = k } → x ≡ None → Ended r x u
-ended_bad r e f = rw (e, f) (refl, λ q. let z : ◌≡◌ {A = ℕ} 0 1 = cc in absurd (omega arith))
-
-pub ended_well : (r : Ran) {u : State} {k : ℕ} → r ≡ record { ok = true; state = u; steps = k } → Ended r (Some k) u
-ended_well r e = rw e (refl, λ q. refl)
+-- a run of a lent state, from what is known of it to the contract, and back
+pub run_ended : (r : Ran) (o : Bool) {u : State} {k : ℕ} → r ≡ record { ok = o; state = u; steps = k } → Ended r (then_some o k) u
+run_ended r o e = rw e (refl, refl)
 
 none_ended : (b : Bool) (k : ℕ) → None ≡ then_some b k → b ≡ false
 none_ended true k e = let z : ◌≡◌ {A = ℕ} 0 1 = cc in absurd (omega arith)
@@ -161,8 +162,8 @@ module _ (r : Ran) {x : Option ℕ} {u : State} (w : Ended r x u) where
   pub ran_bad : x ≡ None → r.ok ≡ false
   ran_bad e = none_ended r.ok r.steps (sym e ∙ w.0)
 
-  pub ran_well : {k : ℕ} → x ≡ Some k → (r.ok ≡ true) × (k ≡ r.steps) × (u ≡ r.state)
-  ran_well {k} e = let y = some_ended r.ok r.steps k (sym e ∙ w.0) in (y.0, y.1, w.1 y.0)
+  pub ran_well : {k : ℕ} → x ≡ Some k → (r.ok ≡ true) × (k ≡ r.steps)
+  ran_well {k} e = some_ended r.ok r.steps k (sym e ∙ w.0)
 
 -- a tick
 abbrev pub refusal : Refusal → State → Tick

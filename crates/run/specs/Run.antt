@@ -35,6 +35,6 @@ abbrev pub number_after : ℕ → ℕ → Head → ℕ
 number_after zero start h = start
 number_after (suc k) start h = pack_of h
 
--- a function that has run a lent state gives the steps, and leaves the state; nothing is said of that where a step met entries outside their layout
+-- a function that has run a lent state leaves the state that the run led to, and gives the steps, or none where a step met entries outside their layout
 abbrev pub Ended : Ran → Option ℕ → State → Type 0
-Ended r steps s = (steps ≡ then_some r.ok r.steps) × (r.ok ≡ true → s ≡ r.state)
+Ended r steps s = (steps ≡ then_some r.ok r.steps) × (s ≡ r.state)

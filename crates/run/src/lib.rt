@@ -49,7 +49,7 @@ const MOST: usize = 8008;
 const HEADS: u64 = 4611686018427387904;
 
 // The first number before the first step: all is zero, but a section without a conjunction is False.
-const FRESH: u64 = 144115188075855872;
+pub const FRESH: u64 = 144115188075855872;
 
 // The state before the first step.
 pub fn fresh() -> State
@@ -74,8 +74,8 @@ fn number(steps: u64, start: u64, h: Head) -> u64
     layout::pack(h)
 }
 
-// At most so many steps of the lent state: how many were taken, or none where one would meet entries outside their layout. The first number is
-// taken apart once, and put together at the end.
+// At most so many steps of the lent state: how many were taken, or none where one would meet entries outside their layout, and the state is the one
+// before it. The first number is taken apart once, and put together at the end.
 // Kept: a while, since it stops where the run is over, and the count of steps is its result.
 fn run(programme: &[u64], request: &[u8], state: &mut State, budget: u64) -> Option<u64>
     requires { (length programme.now ≤ 8008) × (allowed state.old.head ≡ true) }
@@ -84,14 +84,18 @@ fn run(programme: &[u64], request: &[u8], state: &mut State, budget: u64) -> Opt
     let mut h = layout::unpack(state.head);
     let mut steps: u64 = 0;
     while steps < budget && !h.over {
-        h = programme::step_in(
+        let Some(next) = programme::step_in(
             programme,
             request,
             h,
             &mut state.frames,
             &mut state.levels,
             &mut state.places,
-        )?;
+        ) else {
+            state.head = number(steps, state.head, h);
+            return None;
+        };
+        h = next;
         steps += 1;
     }
     state.head = number(steps, state.head, h);

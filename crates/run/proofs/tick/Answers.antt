@@ -27,10 +27,9 @@ returns-in_default-run c =
 
 pub fill-requires : goal.fill-requires
 fill-requires c =
-    let a = c.args in
-    let end = ran_well _ c.run.ensures c.in-Some.is in (
+    let a = c.args in (
       count_small a.programme.now (bags_of a.request.now) a.budget a.state _ _ _ _ c.admits.ensures (not-false _ c.if-not-admits.false-raw) refl
-          (c.unpack-h.ensures ∙ ap (λ (s : State). unpack_of s.head) end.2) c.count.ensures,
+          (c.unpack-h.ensures ∙ ap (λ (s : State). unpack_of s.head) c.run.ensures.1) c.count.ensures,
       c.if-out-lt-PLACES.false,
     )
 
@@ -38,8 +37,10 @@ pub returns : goal.returns
 returns c =
     let ran = tick_ran _ _ _ _ c.args.out.now _ c.judge_request.ensures _ c.in_default.is c.if-out-lt-PLACES.false
     _ c.admits.ensures _ (not-false _ c.if-not-admits.false-raw) refl in
-    let end = ran_well _ c.run.ensures c.in-Some.is in
+    let well = ran_well _ c.run.ensures c.in-Some.is in
     elim c.if-h.branch [
-      | then-h w ↦ tick_finished _ _ _ _ _ _ ran end.0 end.1 end.2 _ c.unpack-h.ensures _ c.answer.ensures _ _ w.count.ensures w.if-h.true (w.out-is ∙ w.fill.ensures)
-      | else-h w ↦ tick_running _ _ _ _ _ _ ran end.0 end.1 end.2 _ c.unpack-h.ensures _ c.answer.ensures _ w.if-h.false w.out-is
+      | then-h w ↦
+          tick_finished _ _ _ _ _ _ ran well.0 well.1 c.run.ensures.1 _ c.unpack-h.ensures _ c.answer.ensures _ _
+          w.count.ensures w.if-h.true (w.out-is ∙ w.fill.ensures)
+      | else-h w ↦ tick_running _ _ _ _ _ _ ran well.0 well.1 c.run.ensures.1 _ c.unpack-h.ensures _ c.answer.ensures _ w.if-h.false w.out-is
     ]
