@@ -1,7 +1,7 @@
 -- Refusals of a book as the C caller sees them: `bachumoi_decide` and `bachumoi_translate` refuse it exactly when it breaks a rule, with the number and the line
 -- of that rule. `proofs/Refuses.antt` proves it. Assumes nothing.
-use Rattle.std.specs.Prelude.{ℕ, ◌+◌, ◌*◌, ◌<◌, ◌≡◌, List, length}
-use Rattle.record.specs.Refusals.{book, part_number, number_of, part_of, line_of, refusal_number}
+use Rattle.std.specs.Prelude.{ℕ, ◌<◌, ◌≡◌, List, length}
+use Rattle.record.specs.Refusals.{book, part_number, number_of, part_of, line_of, refusal_number, told as told_of}
 use Rattle.record.specs.declared.Refusal.{Refusal}
 use Rattle.judge.specs.Exactly.{Breaks}
 use Rattle.host.specs.Host.{host_number, host_outcome, host_out}
@@ -17,7 +17,7 @@ BrokenIsTold =
 
 -- what a number says of the book: a refusal's number and its line
 abbrev pub told : ℕ → ℕ → ℕ
-told number line = 255 + 256 * number + 65536 * line + 4294967296 * part_number book
+told number line = told_of number (part_number book) line
 
 -- the book breaks a rule, and the refusal for it has this number and this line
 pub record BrokenAt (b : List ℕ) (number line : ℕ) : Type 0 where

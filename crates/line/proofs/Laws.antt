@@ -11,11 +11,10 @@ use lib.ListN.{length, take, get_or, drop, set, length-append, drop_of_length-le
 use lib.Seq.{drop-cons, take_at}
 use Rattle.record.specs.Choose.{if}
 use Rattle.record.specs.Stored.{stored}
-use Rattle.record.specs.Refusals.{part_number, number_of, part_of, line_of}
 use Rattle.record.specs.declared.Refusal.{Refusal}
 use Rattle.record.proofs.Stored.{stored_then, stored_one, stored_pair, stored_first}
 use Rattle.text.specs.Hex.{letter_of}
-use Rattle.line.specs.Line.{hex_of, fours, refusal_line, decision_line, places_of, put}
+use Rattle.line.specs.Line.{hex_of, fours, told_line, refusal_line, decision_line, places_of, put}
 
 hex_four : (n : ℕ) → hex_of 4 n ≡ hex_of 2 (n / 256) ++ hex_of 2 n
 unfolding hex_of
@@ -33,9 +32,13 @@ unfolding fours
 length_fours [] = refl
 length_fours (n ∷ ns) = length-append (hex_of 4 n) (fours ns) ∙ omega (arith, length_hex 4 n, length_fours ns)
 
+pub length_told : (number part line : ℕ) → length (told_line number part line) ≡ 11
+unfolding told_line
+length_told number part line = simp (length-append, length_hex)
+
 pub length_refusal : (r : Refusal) → length (refusal_line r) ≡ 11
 unfolding refusal_line
-length_refusal r = simp (length-append, length_hex)
+length_refusal r = length_told _ _ _
 
 pub length_decision : (decision : ℕ) (ns : List ℕ) → length (decision_line decision ns) ≡ 7 + 4 * length ns
 unfolding decision_line
@@ -66,26 +69,25 @@ pub places_short : (line : List ℕ) (room : ℕ) → room < length line → 0 �
 unfolding places_of
 places_short line room h = simp (lt-leb (length line) room h)
 
--- the stores of a refusal's line, one after the other
-refusal_parts : (r : Refusal) → refusal_line r
-    ≡ hex_of 2 255 ++ (hex_of 2 (number_of r) ++ (hex_of 2 (part_number (part_of r)) ++ (hex_of 4 (line_of r) ++ (10 ∷ []))))
-unfolding refusal_line
-refusal_parts r = simp append_assoc
+-- the stores of the line of a number, a part and a line, one after the other
+told_parts : (number part line : ℕ) → told_line number part line
+    ≡ hex_of 2 255 ++ (hex_of 2 number ++ (hex_of 2 part ++ (hex_of 4 line ++ (10 ∷ []))))
+unfolding told_line
+told_parts number part line = simp append_assoc
 
-pub refusal_put : (r : Refusal) (l : List ℕ) {a b c d : List ℕ} → 11 ≤ length l
-    → a ≡ stored l 0 (hex_of 2 255) → b ≡ stored a 2 (hex_of 2 (number_of r))
-    → c ≡ stored b 4 (hex_of 2 (part_number (part_of r))) → d ≡ stored c 6 (hex_of 4 (line_of r))
-    → set d 10 10 ≡ put (refusal_line r) l
-refusal_put r l h e1 e2 e3 e4 =
+pub told_put : (number part line : ℕ) (l : List ℕ) {a b c d : List ℕ} → 11 ≤ length l
+    → a ≡ stored l 0 (hex_of 2 255) → b ≡ stored a 2 (hex_of 2 number) → c ≡ stored b 4 (hex_of 2 part) → d ≡ stored c 6 (hex_of 4 line)
+    → set d 10 10 ≡ put (told_line number part line) l
+told_put number part line l h e1 e2 e3 e4 =
     rw (e4, e3, e2, e1)
     (stored_one _ 10 10
     ∙ sym
-    (ap (stored l 0) (refusal_parts r)
+    (ap (stored l 0) (told_parts number part line)
     ∙ stored_then l (hex_of 2 255) _ 0 2 (length_hex 2 255)
-    ∙ stored_then _ (hex_of 2 (number_of r)) _ 2 2 (length_hex 2 (number_of r))
-    ∙ stored_then _ (hex_of 2 (part_number (part_of r))) _ 4 2 (length_hex 2 (part_number (part_of r)))
-    ∙ stored_then _ (hex_of 4 (line_of r)) (10 ∷ []) 6 4 (length_hex 4 (line_of r)))
-    ∙ put_fits (refusal_line r) l (omega (arith, length_refusal r)))
+    ∙ stored_then _ (hex_of 2 number) _ 2 2 (length_hex 2 number)
+    ∙ stored_then _ (hex_of 2 part) _ 4 2 (length_hex 2 part)
+    ∙ stored_then _ (hex_of 4 line) (10 ∷ []) 6 4 (length_hex 4 line))
+    ∙ put_fits (told_line number part line) l (omega (arith, length_told number part line)))
 
 -- one obligation more, and the end of the line
 pub fours_more : (l ns : List ℕ) (at i : ℕ) → i < length ns

@@ -4,10 +4,17 @@ use mathlib.Core.Path.{◌≡◌, sym, ◌∙◌}
 use contract.Lifetimes.{Lfts}
 use borrow.Fn.Kinds.{Dens, res_t, ended_of}
 use denote.Triple.Clauses.{AtExit}
+use Rattle.line.proofs.told_line.Kinds as told-kinds
+use Rattle.line.proofs.told_line.Reads as told-reads
 use Rattle.line.proofs.refusal_line.Kinds as refusal-kinds
 use Rattle.line.proofs.refusal_line.Reads as refusal-reads
 use Rattle.line.proofs.decision_line.Kinds as decision-kinds
 use Rattle.line.proofs.decision_line.Reads as decision-reads
+
+pub one_told_line : (κs : Lfts 1) (a : Dens κs told-kinds.ps) (x y : (res_t told-kinds.r κs).Denot)
+    (s t : AtExit (ended_of 1 told-kinds.ps told-kinds.r) κs)
+    → told-reads.Post κs a x s → told-reads.Post κs a y t → (x ≡ y) × (s.1.1.1.0.now ≡ t.1.1.1.0.now)
+one_told_line κs a x y s t p q = (p.0 ∙ sym q.0, p.1 ∙ sym q.1)
 
 pub one_refusal_line : (κs : Lfts 1) (a : Dens κs refusal-kinds.ps) (x y : (res_t refusal-kinds.r κs).Denot) (s t : AtExit (ended_of 1 refusal-kinds.ps refusal-kinds.r) κs)
     → refusal-reads.Post κs a x s → refusal-reads.Post κs a y t → (x ≡ y) × (s.1.0.now ≡ t.1.0.now)

@@ -25,9 +25,13 @@ decision_line decision obligations = hex_of 2 decision ++ hex_of 4 (length oblig
 abbrev pub longest : ℕ
 longest = 2 + 4 + 4 * most_records + 1
 
--- a refusal: FF, number (2), part (2), line (4)
+-- a number, a part and a line, whatever these are: FF, number (2), part (2), line (4)
+unfoldable pub told_line : ℕ → ℕ → ℕ → List ℕ
+told_line number part line = hex_of 2 255 ++ hex_of 2 number ++ hex_of 2 part ++ hex_of 4 line ++ (lf ∷ [])
+
+-- a refusal
 unfoldable pub refusal_line : Refusal → List ℕ
-refusal_line r = hex_of 2 255 ++ hex_of 2 (number_of r) ++ hex_of 2 (part_number (part_of r)) ++ hex_of 4 (line_of r) ++ (lf ∷ [])
+refusal_line r = told_line (number_of r) (part_number (part_of r)) (line_of r)
 
 -- how many places of a lent output a line takes: all or none
 unfoldable pub places_of : List ℕ → ℕ → ℕ

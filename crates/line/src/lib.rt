@@ -5,7 +5,7 @@
 ghost use Rattle.std.specs.Prelude.{◌≡◌, [], ◌∷◌, ◌++◌, ◌+◌, ◌*◌, ◌≤◌, length, take};
 ghost use Rattle.record.specs.Stored.{stored};
 ghost use Rattle.text.specs.Text.{lf};
-ghost use Rattle.line.specs.Line.{hex_of, fours, refusal_line, decision_line, places_of, put};
+ghost use Rattle.line.specs.Line.{hex_of, fours, told_line, refusal_line, decision_line, places_of, put};
 
 use record::Refusal;
 
@@ -30,20 +30,34 @@ pub fn four_digits(out: &mut [u8], at: usize, n: usize)
     two_digits(out, at + 2, n);
 }
 
-// Puts the line of a refusal first into `out`, and answers its length. Where it does not fit nothing is put, and the answer is 0.
-// Kept: no `Option`, since 0 is what is put there (`places_of`, which the contracts of both lines name).
-pub fn refusal_line(refusal: Refusal, out: &mut [u8]) -> usize
-    ensures { (result ≡ places_of (refusal_line refusal) (length out.old)) × (out.new ≡ put (refusal_line refusal) out.old) }
+// Puts the line of a number, a part and a line, whatever these are, first into `out`, and answers its length. Where it does not fit nothing is put, and
+// the answer is 0.
+// Kept: no `Option`, since 0 is what is put there (`places_of`, which the contracts of all three lines name).
+pub fn told_line(number: u8, part: u8, line: usize, out: &mut [u8]) -> usize
+    ensures { (result ≡ places_of (told_line number part line) (length out.old)) × (out.new ≡ put (told_line number part line) out.old) }
 {
     if out.len() < 11 {
         return 0;
     }
     two_digits(out, 0, 255);
-    two_digits(out, 2, usize::from(refusal.number()));
-    two_digits(out, 4, usize::from(refusal.part().number()));
-    four_digits(out, 6, refusal.line());
+    two_digits(out, 2, usize::from(number));
+    two_digits(out, 4, usize::from(part));
+    four_digits(out, 6, line);
     out[10] = text::LF;
     11
+}
+
+// Puts the line of a refusal in the same way.
+#[tactic(auto, unfolding(crate::specs::Line::refusal_line))]
+pub fn refusal_line(refusal: Refusal, out: &mut [u8]) -> usize
+    ensures { (result ≡ places_of (refusal_line refusal) (length out.old)) × (out.new ≡ put (refusal_line refusal) out.old) }
+{
+    told_line(
+        refusal.number(),
+        refusal.part().number(),
+        refusal.line(),
+        out,
+    )
 }
 
 // The obligations, four digits each, and LF, from place 6 on.
