@@ -1,10 +1,10 @@
 -- How the bag of a key is found in a request: entry after entry. Assumes nothing.
-use Rattle.std.specs.Prelude.{ℕ, ◌+◌, ◌-◌, ◌*◌, ◌/◌, ◌<◌, ◌≤◌, ◌≡◌, List, [], ◌∷◌, length, Option, None, Some, IfSome}
+use Rattle.std.specs.Prelude.{ℕ, ◌+◌, ◌-◌, ◌*◌, ◌/◌, ◌<◌, ◌≤◌, ◌≡◌, List, [], ◌∷◌, length, true, Option, None, Some, IfSome}
 use Rattle.record.specs.Bytes.{size, big_of}
 use Rattle.value.specs.declared.Value.{Value}
 use Rattle.meaning.specs.Numbers.{value_under}
 use Rattle.meaning.specs.Policy.{Key}
-use Rattle.meaning.specs.Reading.{bag_from}
+use Rattle.meaning.specs.Reading.{bag_from, key_in, takes}
 
 -- the entries of a request
 abbrev pub entries_of : List ℕ → ℕ
@@ -22,7 +22,8 @@ abbrev pub rest_at : List ℕ → Key → Option ℕ → List Value
 rest_at q key None = []
 rest_at q key (Some k) = value_in q key k ∷ rest_of q key (k + 1)
 
--- the next entry of the key, from this one on: with it the rest of its bag begins
+-- the next entry of the key, from this one on: the key takes it, and with it the rest of its bag begins, so it is the first
 pub record Next (q : List ℕ) (key : Key) (from : ℕ) (found : Option ℕ) : Type 0 where
   pub rest : rest_of q key from ≡ rest_at q key found
   pub place : IfSome found (λ k. (from ≤ k) × (k < entries_of q))
+  pub taken : IfSome found (λ k. takes key (key_in q k) ≡ true)
