@@ -4,6 +4,7 @@ ghost use Rattle.std.specs.Prelude.{◌≡◌, ◌+◌, ◌*◌, ◌≤◌, leng
 ghost use Rattle.record.specs.Bytes.{size};
 ghost use Rattle.record.specs.Forest.{span_in};
 ghost use Rattle.show.specs.Outline.{told_of};
+ghost use Rattle.show.specs.Sentence.{sentence_words, between_words};
 
 use crate::lines::Line;
 use crate::phrases::phrase;
@@ -79,7 +80,10 @@ fn attribute(book: &[u8], i: usize, l: Line) -> Line
 }
 
 // What stands between two values, by a choice: an operator, or how they are compared.
-fn between(choice: usize) -> &'static str {
+#[tactic(auto, unfolding(crate::specs::Sentence::between_words))]
+fn between(choice: usize) -> &'static str
+    ensures { result.now ≡ between_words choice }
+{
     match choice {
         3 | 8 => " + ",
         4 => " - ",
@@ -174,7 +178,9 @@ fn part(book: &[u8], i: usize, letter: u8, l: Line) -> Line
 }
 
 // The sentence of a kind, with a capital for each part of the record.
-fn sentence(kind: Kind) -> &'static str {
+fn sentence(kind: Kind) -> &'static str
+    ensures { result.now ≡ sentence_words kind }
+{
     match kind {
         Kind::PolicySet => "policy set: A",
         Kind::Policy => "policy: A",
