@@ -19,7 +19,7 @@ use Rattle.mending.proofs.Mended.{replaced_none, replaced_kept, replaced_new, on
 use Rattle.mending.proofs.Answers.{answer}
 
 -- no records have no bytes
-slice_none : (b : List ℕ) (i : ℕ) → slice_of b i 0 ≡ []
+pub slice_none : (b : List ℕ) (i : ℕ) → slice_of b i 0 ≡ []
 unfolding slice_of
 slice_none b i = refl
 

@@ -68,7 +68,7 @@ module _ (b : List ℕ) {i n c e : ℕ} (h : Kept b i n 1 1 c c e) {k : Kind} {a
 deny_length : length (deny_policy ++ deny_rule) ≡ 2 * size
 deny_length = refl
 
-slice_long : (b : List ℕ) (i s : ℕ) → (i + s) * size ≤ length b → length (slice_of b i s) ≡ s * size
+pub slice_long : (b : List ℕ) (i s : ℕ) → (i + s) * size ≤ length b → length (slice_of b i s) ≡ s * size
 unfolding slice_of
 slice_long b i s l = omega (arith, length-take (s * size) (drop (i * size) b), length-drop (i * size) b)
 

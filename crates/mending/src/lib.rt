@@ -16,12 +16,25 @@ use record::{Part, Refusal, SIZE};
 // The bytes of a replacement: its first old line and its old count, two each.
 pub const REPLACEMENT: usize = 4;
 
+// Copies record i into `out` as record k.
+fn copy_record(book: &[u8], i: usize, out: &mut [u8], k: usize)
+    requires { ((i + 1) * size ≤ length book.now) × ((k + 1) * size ≤ length out.old) }
+    ensures { out.new ≡ stored out.old (k * size) (slice_of book.now i 1) }
+{
+    let from = i * SIZE;
+    let to = k * SIZE;
+    out[to..to + SIZE].copy_from_slice(&book[from..from + SIZE]);
+}
+
 // Copies n records, from record i on, into `out`, from record k on.
+// Kept: one by one, since a copy of no fixed length calls `memmove`, and no archive is to need a name from outside for it.
 fn copy(book: &[u8], i: usize, n: usize, out: &mut [u8], k: usize)
     requires { ((i + n) * size ≤ length book.now) × ((k + n) * size ≤ length out.old) }
     ensures { out.new ≡ stored out.old (k * size) (slice_of book.now i n) }
 {
-    out[k * SIZE..(k + n) * SIZE].copy_from_slice(&book[i * SIZE..(i + n) * SIZE]);
+    for j in 0..n {
+        copy_record(book, i + j, out, k + j);
+    }
 }
 
 // Stores a number as two bytes, from place `at` on.
