@@ -185,7 +185,10 @@ pub fn link(book: &[u8], from: usize, stop: usize, elders: &mut Elders)
         let s = record::span_in(book, i, stop - i);
         let next = i + s;
         elders[i] = narrow(last);
-        link(book, i + 1, next, elders);
+        // Nothing stands below most records, and a call for these too would be slower.
+        if s != 1 {
+            link(book, i + 1, next, elders);
+        }
         last = i;
         i = next;
     }

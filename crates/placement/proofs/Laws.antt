@@ -266,6 +266,11 @@ module _ (b : List ℕ) {p i e d pn gc pc er : ℕ} {k : Kind} {c end : ℕ} (h 
           let n : e - (i + 1) - (end - (i + 1)) ≡ e - end = omega arith in
           ev ∙ first_next (place_ok b) i (e - i) (e - (i + 1)) (omega arith) h.ok ∙ (rw (m, n) at s)
 
+      -- what is known before the child behind it, which begins at `next`
+      pub behind : {next x v : ℕ} → next ≡ end → x ≡ rank_of k c → v ≡ first_from (place_ok b) i (e - i)
+          → (next ≤ e) × (p < next) × Walk b p next e d pn gc pc x × (v ≡ first_from (place_ok b) next (e - next))
+      behind n er ev = let y = bounds in (omega (arith, n, y), omega (arith, n, y, w.after), rw n (rest er), rw n (go_on ev))
+
 -- line 1
 pub top_broken : (b : List ℕ) {n : ℕ} → 0 < n → false ≡ top_ok b → FirstBroken b 0 n (Some (record { at = 0; rule = 9 }))
 unfolding place_ok broken_at

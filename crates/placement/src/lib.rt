@@ -201,10 +201,14 @@ fn walk(book: &[u8], p: usize, top: usize, parent: Parent) -> Option<Broken>
         if let Some(rule) = child_rule(next, top, parent.depth, ok) {
             return Some(Broken { at: i, rule });
         }
+        before = rank(k, c);
+        // Nothing stands below most records, and what calls itself for these too is slower and takes more stack.
+        if next == i + 1 {
+            continue;
+        }
         if let Some(bad) = walk(book, i, next, parent.below(k, c)) {
             return Some(bad);
         }
-        before = rank(k, c);
     }
     None
 }

@@ -270,7 +270,11 @@ fn text_at(records: &[u8], j: usize) -> u8
         return LF;
     }
     let b = usize::from(records[record::SIZE * (j / LINE) + k / 2]);
-    letter(if k % 2 == 0 { b / 16 } else { b })
+    if k % 2 == 0 {
+        letter(b / 16)
+    } else {
+        letter(b)
+    }
 }
 
 // The text of n records, into the first places.

@@ -1,6 +1,7 @@
 use native.Mathlib.Omega.{arith}
 use Rattle.elders.proofs.Links.{linking_none, linking_begin, next_le, next_lt, linking_more, linking_end, first_le}
-use lib.ListN.{length-set}
+use Prim.Native.Nat.{◌+◌}
+use lib.ListN.{set, length-set}
 use Rattle.elders.proofs.+link.Goals as goal
 
 pub returns-then-from-stop : goal.returns-then-from-stop
@@ -21,10 +22,17 @@ link-requires t c =
       ),
     )
 
-pub loop-i-preserved : goal.loop-i-preserved
-loop-i-preserved t c =
+pub loop-i-preserved-then-s-ne1 : goal.loop-i-preserved-then-s-ne1
+loop-i-preserved-then-s-ne1 t c =
     linking_more c.loop-i.invariant c.loop-i-test.true c.span_in-s.ensures.0 c.narrow.ensures
     (omega (arith, c.loop-i.invariant.kept.long, c.loop-i-test.true, c.requires.3)) c.link.ensures.0 c.link.ensures.1
+
+pub loop-i-preserved : goal.loop-i-preserved
+loop-i-preserved t c =
+    let i = c.loop-i.i in
+    let none = linking_none c.args.book.now (set c.loop-i.elders i c.narrow.result) (i + 1) (i + c.span_in-s.result) (omega (arith, c.if-s-ne1.false)) in
+    linking_more c.loop-i.invariant c.loop-i-test.true c.span_in-s.ensures.0 c.narrow.ensures
+    (omega (arith, c.loop-i.invariant.kept.long, c.loop-i-test.true, c.requires.3)) none.0 none.1
 
 pub returns : goal.returns
 returns t c =
